@@ -1,0 +1,3 @@
+-- The laws of the definitions in specs/, a file for each subject.
+pub mod Lists
+pub mod SmallTable

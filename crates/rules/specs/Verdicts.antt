@@ -1,0 +1,59 @@
+-- The judge's answer. It is "the first of: extract i is empty or names a missing column (smallest i); extract i contains forbidden set j
+-- (smallest i, then j); extracts i and j, i below j, share a column (smallest i, then j); need k is met by no extract (smallest k); right."
+-- "An unfit job gives 7."
+use mathlib.Core.Bool.{Bool, not}
+use mathlib.Core.List.{List, [], _∷_}
+use mathlib.Core.Option.{Option, none, some, Option·map, Option·getD, orElse}
+use Prim.Native.Nat.{ℕ, zero, suc}
+use Rattle.rules.specs.Lists.{firstWhere}
+use Rattle.rules.specs.Sets.{contains}
+use Rattle.rules.specs.Jobs.{Job, unlinked}
+use Rattle.rules.specs.Numbers.{Numbers, jobOf}
+use Rattle.rules.specs.Splits.{proper, met}
+
+pub data Verdict : Type 0 where
+  -- refusal 7
+  unfitJob : Verdict
+  -- extract i is empty or names a missing column
+  improper : ℕ → Verdict
+  -- extract i contains forbidden set j
+  forbids : ℕ → ℕ → Verdict
+  -- extracts i and j share a column
+  shares : ℕ → ℕ → Verdict
+  -- need k is met by no extract
+  unmet : ℕ → Verdict
+  right : Verdict
+
+pub record Places : Type 0 where
+  pub i : ℕ
+  pub j : ℕ
+
+-- the smallest i, then j, such that extract i contains forbidden set j
+unfoldable pub firstForbidden : List ℕ → List ℕ → Option Places
+firstForbidden forbidden [] = none
+firstForbidden forbidden (s ∷ split) =
+    orElse (Option·map (λ j. record { i = 0; j = j }) (firstWhere (contains s) forbidden))
+    (Option·map (λ p. record { i = suc (p .i); j = p .j }) (firstForbidden forbidden split))
+
+-- the smallest i, then j, such that extracts i and j, i below j, share a column
+unfoldable pub firstSharing : Job → List ℕ → Option Places
+firstSharing job [] = none
+firstSharing job (s ∷ split) =
+    orElse (Option·map (λ j. record { i = 0; j = suc j }) (firstWhere (λ t. not (unlinked job s t)) split))
+    (Option·map (λ p. record { i = suc (p .i); j = suc (p .j) }) (firstSharing job split))
+
+-- the first fault in the order of the sentence
+unfoldable pub firstFault : Job → List ℕ → Option Verdict
+firstFault job split =
+    orElse (Option·map improper (firstWhere (λ s. not (proper job s)) split))
+    (orElse (Option·map (λ p. forbids (p .i) (p .j)) (firstForbidden (job .forbidden) split))
+    (orElse (Option·map (λ p. shares (p .i) (p .j)) (firstSharing job split))
+    (Option·map unmet (firstWhere (λ v. not (met split v)) (job .needs)))))
+
+-- the answer for a job
+unfoldable pub verdict : Job → List ℕ → Verdict
+verdict job split = Option·getD (firstFault job split) right
+
+-- the answer for numbers: "An unfit job gives 7."
+unfoldable pub judged : Numbers → List ℕ → Verdict
+judged q split = Option·getD (Option·map (λ job. verdict job split) (jobOf q)) unfitJob
