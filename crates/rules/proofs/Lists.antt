@@ -112,6 +112,7 @@ module _ {A : Type 0} where
     where
       old : List·Memᴰ x ys × (p x ≡ true) → List·Memᴰ x (y ∷ ys) × (p x ≡ true)
       old i = (List·Memᴰ·tail (i .0), i .1)
+
       go : (b : Bool) → p y ≡ b → (List·Memᴰ x (keep p ys) → List·Memᴰ x ys × (p x ≡ true))
           → List·Memᴰ x (cond b (y ∷ keep p ys) (keep p ys)) → List·Memᴰ x (y ∷ ys) × (p x ≡ true)
       go true e f (List·Memᴰ·head q) = (List·Memᴰ·head q, ap p q ∙ e)

@@ -1,7 +1,7 @@
 -- Sets of columns. "A set of columns is a number: column i is bit i, worth 2 to the power i."
-use mathlib.Core.Bool.{Bool, not}
-use mathlib.Core.List.{List}
-use Prim.Native.Nat.{ℕ, _-_, _/_, _%_, _^_}
+use mathlib.Core.Bool.{Bool, not, cond, _&&_, _||_}
+use mathlib.Core.List.{List, [], _∷_}
+use Prim.Native.Nat.{ℕ, _+_, _-_, _/_, _%_, _^_}
 use lib.Dec.{eqb, ltb}
 use lib.ListN.{length}
 use Rattle.rules.specs.Lists.{every, keep, upFrom}
@@ -37,6 +37,19 @@ empty = 0
 -- "the full set for n columns"
 abbrev pub full : ℕ → ℕ
 full n = 2 ^ n - 1
+
+-- what those of the columns are worth together of which the test holds
+unfoldable pub worth : (ℕ → Bool) → List ℕ → ℕ
+worth p [] = 0
+worth p (i ∷ columns) = cond (p i) (2 ^ i) 0 + worth p columns
+
+-- the columns of both sets
+unfoldable pub union : ℕ → ℕ → ℕ
+union s t = worth (λ i. has i s || has i t) (upFrom 0 mostColumns)
+
+-- the columns of s that are not in t
+unfoldable pub without : ℕ → ℕ → ℕ
+without s t = worth (λ i. has i s && not (has i t)) (upFrom 0 mostColumns)
 
 -- the set names no column but 0 to n-1
 abbrev pub within : ℕ → ℕ → Bool
