@@ -1,13 +1,13 @@
 -- Laws of the plain words about lists. Assumes nothing.
 use mathlib.Core.Path.{_≡_, refl, sym, ap, _∙_}
-use mathlib.Core.Logic.{_↔_, _⊎_, inl, inr}
+use mathlib.Core.Logic.{_⊎_, inl, inr}
 use mathlib.Core.Bool.{Bool, true, false, not, cond, _&&_, _||_, true≢false, false≢true, and-eq-true-iff}
-use mathlib.Core.List.{List, [], _∷_, _++_, List·Memᴰ, List·Memᴰ·head, List·Memᴰ·tail}
+use mathlib.Core.List.{List, [], _∷_, List·Memᴰ, List·Memᴰ·head, List·Memᴰ·tail}
 use mathlib.Core.Option.{Option, none, some, Option·map}
 use Prim.Native.Nat.{ℕ, zero, suc, _+_, _≤_, _<_}
 use native.Mathlib.Decide.{ℕ-discrete}
 use native.Mathlib.Omega.{arith}
-use lib.ListN.{length}
+use lib.ListN.{length, getD}
 use Rattle.rules.specs.Lists.{every, anyOf, keep, firstWhere, upFrom}
 
 -- ---- tests joined by and, or, not
@@ -91,6 +91,17 @@ module _ {A : Type 0} where
   not-any-all p (x ∷ xs) f =
       or-none (p x) (anyOf p xs) (f x (List·Memᴰ·head refl)) (not-any-all p xs (λ y m. f y (List·Memᴰ·tail m)))
 
+  -- ---- places and members
+
+  pub getD-in : (xs : List A) (i : ℕ) (d : A) → i < length xs → List·Memᴰ (getD xs i d) xs
+  getD-in [] i d h = absurd (omega arith)
+  getD-in (x ∷ xs) zero d h = List·Memᴰ·head refl
+  getD-in (x ∷ xs) (suc i) d h = List·Memᴰ·tail (getD-in xs i d (omega arith))
+
+  pub in-getD : {x : A} {xs : List A} (d : A) → List·Memᴰ x xs → (i : ℕ) × (i < length xs) × (getD xs i d ≡ x)
+  in-getD {x} {xs = y ∷ ys} d (List·Memᴰ·head e) = (0, omega arith, sym e)
+  in-getD {x} {xs = y ∷ ys} d (List·Memᴰ·tail m) = let r = in-getD d m in (suc (r .0), omega arith, r .2)
+
   -- ---- keep
 
   pub keep-step : (p : A → Bool) (x : A) (xs : List A) → keep p (x ∷ xs) ≡ cond (p x) (x ∷ keep p xs) (keep p xs)
@@ -119,6 +130,25 @@ module _ {A : Type 0} where
       go true e f (List·Memᴰ·tail i) = old (f i)
       go false e f i = old (f i)
 
+  pub keep-few : (p : A → Bool) (xs : List A) → length (keep p xs) ≤ length xs
+  unfolding keep
+  keep-few p [] = omega arith
+  keep-few p (x ∷ xs) = go (p x) (keep-few p xs)
+    where
+      go : (b : Bool) → length (keep p xs) ≤ length xs → length (cond b (x ∷ keep p xs) (keep p xs)) ≤ suc (length xs)
+      go true h = omega arith
+      go false h = omega arith
+
+  pub keep-fewer : (p : A → Bool) (xs : List A) → anyOf (λ x. not (p x)) xs ≡ true → length (keep p xs) < length xs
+  unfolding keep anyOf
+  keep-fewer p [] e = absurd (false≢true e)
+  keep-fewer p (x ∷ xs) e = go (p x) e (keep-fewer p xs)
+    where
+      go : (b : Bool) → (not b || anyOf (λ x. not (p x)) xs) ≡ true → (anyOf (λ x. not (p x)) xs ≡ true → length (keep p xs) < length xs)
+          → length (cond b (x ∷ keep p xs) (keep p xs)) < suc (length xs)
+      go true q f = omega (arith, f q)
+      go false q f = omega (arith, keep-few p xs)
+
   -- ---- the first where
 
   pub first-none : (p : A → Bool) (xs : List A) → firstWhere p xs ≡ none → anyOf p xs ≡ false
@@ -126,7 +156,8 @@ module _ {A : Type 0} where
   first-none p [] e = refl
   first-none p (x ∷ xs) e = go (p x) (firstWhere p xs) (first-none p xs) e
     where
-      go : (b : Bool) (o : Option ℕ) → (o ≡ none → anyOf p xs ≡ false) → cond b (some 0) (Option·map suc o) ≡ none → (b || anyOf p xs) ≡ false
+      go : (b : Bool) (o : Option ℕ) → (o ≡ none → anyOf p xs ≡ false) → cond b (some 0) (Option·map suc o) ≡ none
+          → (b || anyOf p xs) ≡ false
       go true o f q = let z : _≡_ {A = Bool} true false = cc in absurd (true≢false z)
       go false none f q = f refl
       go false (some i) f q = let z : _≡_ {A = Bool} true false = cc in absurd (true≢false z)

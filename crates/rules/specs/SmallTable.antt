@@ -1,11 +1,11 @@
 -- 01's small table: what is asked of which numbers, and what the table says.
 use mathlib.Core.List.{List, [], _∷_}
-use mathlib.Core.Option.{Option, none, some, Option·map, Option·getD}
+use mathlib.Core.Option.{Option·map, Option·getD}
 use Prim.Native.Nat.{ℕ}
 use Rattle.rules.specs.Jobs.{Job}
 use Rattle.rules.specs.Numbers.{Numbers, jobOf}
 use Rattle.rules.specs.Plans.{plan}
-use Rattle.rules.specs.Diagrams.{Node, Diagram, diagram}
+use Rattle.rules.specs.Diagrams.{Node, diagram}
 use Rattle.rules.specs.Paths.{OnePath, onePaths}
 use Rattle.rules.specs.Refusals.{numbersUnfit, noCorrectSplit}
 

@@ -1,10 +1,10 @@
 -- The judge's answer. It is "the first of: extract i is empty or names a missing column (smallest i); extract i contains forbidden set j
 -- (smallest i, then j); extracts i and j, i below j, share a column (smallest i, then j); need k is met by no extract (smallest k); right."
 -- "An unfit job gives 7."
-use mathlib.Core.Bool.{Bool, not}
+use mathlib.Core.Bool.{not}
 use mathlib.Core.List.{List, [], _∷_}
-use mathlib.Core.Option.{Option, none, some, Option·map, Option·getD, orElse}
-use Prim.Native.Nat.{ℕ, zero, suc}
+use mathlib.Core.Option.{Option, none, Option·map, Option·getD, orElse}
+use Prim.Native.Nat.{ℕ, suc}
 use Rattle.rules.specs.Lists.{firstWhere}
 use Rattle.rules.specs.Sets.{contains}
 use Rattle.rules.specs.Jobs.{Job, unlinked}

@@ -1,0 +1,152 @@
+-- The judge says right exactly if the split is correct. Assumes nothing.
+use mathlib.Core.Path.{_≡_, refl, sym, ap, _∙_}
+use mathlib.Core.Bool.{Bool, true, false, not, true≢false}
+use mathlib.Core.List.{List, [], _∷_}
+use mathlib.Core.Option.{Option, none, some, Option·map, Option·getD, orElse, Option·some-injective}
+use Prim.Native.Nat.{ℕ}
+use borrow.Author.Tests.{not-true, not-false}
+use Rattle.rules.specs.Lists.{every, firstWhere}
+use Rattle.rules.specs.Sets.{contains}
+use Rattle.rules.specs.Jobs.{Job, safe, unlinked}
+use Rattle.rules.specs.Numbers.{Numbers, jobOf}
+use Rattle.rules.specs.Splits.{proper, allUnlinked, met, correct}
+use Rattle.rules.specs.Verdicts.{Verdict, unfitJob, improper, forbids, shares, unmet, right}
+use Rattle.rules.specs.Verdicts.{Places, firstForbidden, firstSharing, firstFault, verdict, judged}
+use Rattle.rules.proofs.Lists.{and-parts, and-both, every-in, every-all, not-any-in, not-any-all, first-none, none-first}
+use Rattle.rules.proofs.Splits.{correct-parts, parts-correct}
+
+-- ---- of several findings
+
+module _ {A : Type 0} where
+  else-none : (a b : Option A) → orElse a b ≡ none → (a ≡ none) × (b ≡ none)
+  unfolding orElse
+  else-none none b e = (refl, e)
+  else-none (some a) b e = let z : _≡_ {A = Bool} true false = cc in absurd (true≢false z)
+
+  none-else : (a b : Option A) → a ≡ none → b ≡ none → orElse a b ≡ none
+  unfolding orElse
+  none-else none b p q = q
+  none-else (some a) b p q = p
+
+  map-none : {B : Type 0} (f : A → B) (a : Option A) → Option·map f a ≡ none → a ≡ none
+  map-none f none e = refl
+  map-none f (some a) e = let z : _≡_ {A = Bool} true false = cc in absurd (true≢false z)
+
+  none-map : {B : Type 0} (f : A → B) (a : Option A) → a ≡ none → Option·map f a ≡ none
+  none-map f a e = ap (Option·map f) e
+
+  -- no place is found where the test fails exactly if it holds of every one
+  faultless-every : (p : A → Bool) (xs : List A) → firstWhere (λ x. not (p x)) xs ≡ none → every p xs ≡ true
+  faultless-every p xs e =
+      every-all p xs (λ x m. not-false (p x) (not-any-in (λ x. not (p x)) (first-none (λ x. not (p x)) xs e) m))
+
+  every-faultless : (p : A → Bool) (xs : List A) → every p xs ≡ true → firstWhere (λ x. not (p x)) xs ≡ none
+  every-faultless p xs e = none-first (λ x. not (p x)) xs (not-any-all (λ x. not (p x)) xs (λ x m. ap not (every-in p e m)))
+
+-- ---- a fault is never called right
+
+-- true of right alone
+abbrev isRight : Verdict → Bool
+isRight unfitJob = false
+isRight (improper i) = false
+isRight (forbids i j) = false
+isRight (shares i j) = false
+isRight (unmet k) = false
+isRight right = true
+
+module _ {A : Type 0} (fault : A → Verdict) (wrong : (a : A) → isRight (fault a) ≡ false) where
+  wrong-map : (o : Option A) → Option·map fault o ≡ some right → ⊥
+  wrong-map none e = let z : _≡_ {A = Bool} true false = cc in true≢false z
+  wrong-map (some a) e = true≢false (sym (ap isRight (Option·some-injective (fault a) right e)) ∙ wrong a)
+
+  wrong-else : (o : Option A) (rest : Option Verdict) → (rest ≡ some right → ⊥) → orElse (Option·map fault o) rest ≡ some right → ⊥
+  unfolding orElse
+  wrong-else none rest f e = f e
+  wrong-else (some a) rest f e = wrong-map (some a) e
+
+-- ---- each of the faults
+
+module _ (job : Job) where
+  forbidden-safe : (split : List ℕ) → firstForbidden (job .forbidden) split ≡ none → every (safe job) split ≡ true
+  unfolding firstForbidden every safe
+  forbidden-safe [] e = refl
+  forbidden-safe (s ∷ split) e =
+      let o = else-none _ _ e in
+      and-both (safe job s) (every (safe job) split) (ap not (first-none (contains s) (job .forbidden) (map-none _ _ (o .0))))
+      (forbidden-safe split (map-none _ _ (o .1)))
+
+  safe-forbidden : (split : List ℕ) → every (safe job) split ≡ true → firstForbidden (job .forbidden) split ≡ none
+  unfolding firstForbidden every safe
+  safe-forbidden [] e = refl
+  safe-forbidden (s ∷ split) e =
+      let p = and-parts (safe job s) (every (safe job) split) e in
+      none-else _ _ (none-map _ _ (none-first (contains s) (job .forbidden) (not-true _ (p .0)))) (none-map _ _ (safe-forbidden split (p .1)))
+
+  sharing-unlinked : (split : List ℕ) → firstSharing job split ≡ none → allUnlinked job split ≡ true
+  unfolding firstSharing allUnlinked
+  sharing-unlinked [] e = refl
+  sharing-unlinked (s ∷ split) e =
+      let o = else-none _ _ e in
+      and-both (every (unlinked job s) split) (allUnlinked job split) (faultless-every (unlinked job s) split (map-none _ _ (o .0)))
+      (sharing-unlinked split (map-none _ _ (o .1)))
+
+  unlinked-sharing : (split : List ℕ) → allUnlinked job split ≡ true → firstSharing job split ≡ none
+  unfolding firstSharing allUnlinked
+  unlinked-sharing [] e = refl
+  unlinked-sharing (s ∷ split) e =
+      let p = and-parts (every (unlinked job s) split) (allUnlinked job split) e in
+      none-else _ _ (none-map _ _ (every-faultless (unlinked job s) split (p .0))) (none-map _ _ (unlinked-sharing split (p .1)))
+
+  -- ---- all of them
+
+  faultless-correct : (split : List ℕ) → firstFault job split ≡ none → correct job split ≡ true
+  unfolding firstFault
+  faultless-correct split e =
+      let a = else-none _ _ e in
+      let b = else-none _ _ (a .1) in
+      let c = else-none _ _ (b .1) in
+      parts-correct job split (record {
+        proper = faultless-every (proper job) split (map-none _ _ (a .0));
+        safe = forbidden-safe split (map-none _ _ (b .0));
+        unlinked = sharing-unlinked split (map-none _ _ (c .0));
+        met = faultless-every (met split) (job .needs) (map-none _ _ (c .1));
+      })
+
+  correct-faultless : (split : List ℕ) → correct job split ≡ true → firstFault job split ≡ none
+  unfolding firstFault
+  correct-faultless split e =
+      let p = correct-parts job split e in
+      none-else _ _ (none-map _ _ (every-faultless (proper job) split (p .proper)))
+      (none-else _ _ (none-map _ _ (safe-forbidden split (p .safe)))
+      (none-else _ _ (none-map _ _ (unlinked-sharing split (p .unlinked)))
+      (none-map _ _ (every-faultless (met split) (job .needs) (p .met)))))
+
+  never-right : (split : List ℕ) → firstFault job split ≡ some right → ⊥
+  unfolding firstFault
+  never-right split =
+      wrong-else improper (λ i. refl) (firstWhere (λ s. not (proper job s)) split) _
+      (wrong-else (λ (p : Places). forbids (p .i) (p .j)) (λ p. refl) (firstForbidden (job .forbidden) split) _
+      (wrong-else (λ (p : Places). shares (p .i) (p .j)) (λ p. refl) (firstSharing job split) _
+      (wrong-map unmet (λ k. refl) (firstWhere (λ v. not (met split v)) (job .needs)))))
+
+  pub right-correct : (split : List ℕ) → verdict job split ≡ right → correct job split ≡ true
+  unfolding verdict
+  right-correct split e = go (firstFault job split) refl e
+    where
+      go : (o : Option Verdict) → firstFault job split ≡ o → Option·getD o right ≡ right → correct job split ≡ true
+      go none q r = faultless-correct split q
+      go (some v) q r = absurd (never-right split (q ∙ ap {B = Option Verdict} some r))
+
+  pub correct-right : (split : List ℕ) → correct job split ≡ true → verdict job split ≡ right
+  unfolding verdict
+  correct-right split e = rw (correct-faultless split e)
+
+-- ---- the answer for numbers
+
+pub judged-job : (q : Numbers) (job : Job) (split : List ℕ) → jobOf q ≡ some job → judged q split ≡ verdict job split
+unfolding judged
+judged-job q job split e = rw e
+
+pub judged-unfit : (q : Numbers) (split : List ℕ) → jobOf q ≡ none → judged q split ≡ unfitJob
+unfolding judged
+judged-unfit q split e = rw e
