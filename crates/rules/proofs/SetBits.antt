@@ -6,14 +6,14 @@ use native.Mathlib.Nat.{pow-suc, div-one, div-eq-of-lt, mod-lt, lt-of-lt-of-le, 
 use native.Mathlib.Numerals.{one-add}
 use native.Mathlib.Decide.{decLt}
 use native.Mathlib.Omega.{arith}
-use lib.Dec.{eqb, ltb, leb·suc-suc}
+use lib.Dec.{eqb, ltb, leb, leb·suc-suc}
 use lib.Arith.{lt-one}
 use lib.Pow.{pow-pos, pow-mono, shr-shr, ones-lt}
 use lib.Bits.{bitAnd, bitOr, and-step, and-shr, or-step, or-shr}
-use borrow.Author.Tests.{eq-eqb, ne-eqb, lt-ltb, le-ltb}
+use borrow.Author.Tests.{eq-eqb, ne-eqb, ltb-true, lt-ltb, le-ltb, leb-true, le-leb}
 use Rattle.rules.specs.Lists.{upFrom}
-use Rattle.rules.specs.Sets.{has, full, worth}
-use Rattle.rules.proofs.Lists.{holds-fails}
+use Rattle.rules.specs.Sets.{has, full, worth, within}
+use Rattle.rules.proofs.Lists.{same-test, holds-fails}
 
 -- ---- one binary digit
 
@@ -102,6 +102,20 @@ has-full (suc n) zero = ap (has 0) (full-first n) ∙ has-first (full n) true �
 has-full (suc n) (suc i) =
     let half : full (suc n) / 2 ≡ full n = omega (arith, full-first n) in
     has-later i (full (suc n)) ∙ ap (has i) half ∙ has-full n i ∙ sym (leb·suc-suc (suc i) n)
+
+-- a set of at most 16 columns lies within n of them if its number is none past the full set's
+pub within-full : (n s : ℕ) → s < 2 ^ 16 → within n s ≡ leb s (full (min n 16))
+within-full n s b =
+    same-test (within n s) (leb s (full (min n 16))) (λ w. le-leb s (full (min n 16)) (there w (decLt n 16))) back
+  where
+    there : within n s ≡ true → Dec (n < 16) → s ≤ full (min n 16)
+    there w (yes l) = let e : min n 16 ≡ n = omega arith in rw e (omega (arith, ltb-true s (2 ^ n) w))
+    there w (no l) = let e : min n 16 ≡ 16 = omega arith in rw e (omega arith)
+
+    back : leb s (full (min n 16)) ≡ true → within n s ≡ true
+    back h =
+        let less : s < 2 ^ min n 16 = omega (arith, leb-true s (full (min n 16)) h, pow-pos (min n 16)) in
+        lt-ltb s (2 ^ n) (lt-of-lt-of-le less (pow-mono {i = min n 16} {j = n} (omega arith)))
 
 -- ---- what columns are worth together
 
