@@ -1,5 +1,6 @@
 -- The laws of the definitions in specs/, a file for each subject, in the order in which they build on each other.
 pub mod Lists
+pub mod Counting
 pub mod SetBits
 pub mod Sets
 pub mod SetSizes
@@ -13,4 +14,11 @@ pub mod Plans
 pub mod Useful
 pub mod Verdicts
 pub mod Demands
+pub mod Nodes
+pub mod Diagrams
+pub mod DiagramMeanings
+pub mod DiagramSizes
+pub mod Reached
+pub mod PathSets
+pub mod Paths
 pub mod SmallTable

@@ -1,7 +1,7 @@
 -- Laws of how many columns a set has. Assumes nothing.
 use mathlib.Core.Path.{_≡_, refl, sym, ap, ap₂, _∙_, fun-ext}
 use mathlib.Core.Bool.{Bool, true, false, not, cond, _&&_, _||_}
-use mathlib.Core.List.{List, [], _∷_, List·Memᴰ, List·Memᴰ·head, List·Memᴰ·tail}
+use mathlib.Core.List.{List, _∷_}
 use Prim.Native.Nat.{ℕ, zero, suc, _+_, _/_, _%_, _^_, _≤_, _<_}
 use native.Mathlib.Nat.{div-one, pow-suc, mod-lt, zero-lt-suc, lt-of-le-of-lt}
 use native.Mathlib.Omega.{arith}
@@ -13,30 +13,11 @@ use lib.Count.{ones, ones-step, ones-ones, ones-le}
 use Rattle.rules.specs.Lists.{keep, upFrom}
 use Rattle.rules.specs.Sets.{has, members, contains, apart, size, full, union, without}
 use Rattle.rules.proofs.Lists.{in-upFrom}
+use Rattle.rules.proofs.Counting.{keep-same, keep-parts}
 use Rattle.rules.proofs.SetBits.{has-and, has-later, below-most, sets-equal, full-within}
 use Rattle.rules.proofs.Sets.{contains-and, apart-column, has-union, has-without, without-below}
 
 -- ---- how many of a list are kept
-
-module _ {A : Type 0} where
-  keep-same : (p q : A → Bool) (xs : List A) → ((x : A) → List·Memᴰ x xs → p x ≡ q x) → keep p xs ≡ keep q xs
-  unfolding keep
-  keep-same p q [] f = refl
-  keep-same p q (x ∷ xs) f = rw (f x (List·Memᴰ·head refl), keep-same p q xs (λ y m. f y (List·Memᴰ·tail m)))
-
-  -- those of which another test holds too, and those of which it fails
-  keep-parts : (p q : A → Bool) (xs : List A)
-      → length (keep p xs) ≡ length (keep (λ x. p x && q x) xs) + length (keep (λ x. p x && not (q x)) xs)
-  unfolding keep
-  keep-parts p q [] = refl
-  keep-parts p q (x ∷ xs) =
-      go (p x) (q x) (keep p xs) (keep (λ y. p y && q y) xs) (keep (λ y. p y && not (q y)) xs) (keep-parts p q xs)
-    where
-      go : (a b : Bool) (k l m : List A) → length k ≡ length l + length m
-          → length (cond a (x ∷ k) k) ≡ length (cond (a && b) (x ∷ l) l) + length (cond (a && not b) (x ∷ m) m)
-      go true true k l m e = omega arith
-      go true false k l m e = omega arith
-      go false b k l m e = e
 
 keep-later : (p : ℕ → Bool) (i k : ℕ) → length (keep p (upFrom (suc i) k)) ≡ length (keep (λ j. p (suc j)) (upFrom i k))
 unfolding keep upFrom

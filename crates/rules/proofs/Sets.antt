@@ -81,6 +81,10 @@ pub has-apart : (s t : ℕ) → ((i : ℕ) → i < 16 → has i t ≡ true → h
 unfolding apart
 has-apart s t f = every-all (λ j. not (has j s)) (members t) (λ i m. ap not (f i (member-has t i m .0) (member-has t i m .1)))
 
+pub apart-empty : (s : ℕ) → apart s 0 ≡ true
+unfolding apart members keep upFrom every
+apart-empty s = refl
+
 pub apart-and : (s t : ℕ) → t < 2 ^ 16 → apart s t ≡ true → bitAnd s t ≡ 0
 apart-and s t b a =
     sets-equal 16 (bitAnd s t) 0 (lt-of-le-of-lt (and-le-r s t) b) (omega arith) λ i l.
