@@ -104,10 +104,6 @@ module _ {A : Type 0} where
 
   -- ---- keep
 
-  pub keep-step : (p : A → Bool) (x : A) (xs : List A) → keep p (x ∷ xs) ≡ cond (p x) (x ∷ keep p xs) (keep p xs)
-  unfolding keep
-  keep-step p x xs = refl
-
   pub keep-in : (p : A → Bool) {x : A} {xs : List A} → List·Memᴰ x xs → p x ≡ true → List·Memᴰ x (keep p xs)
   unfolding keep
   keep-in p {x} {xs = y ∷ ys} (List·Memᴰ·head q) e = rw (sym (ap p q) ∙ e) (List·Memᴰ·head q)

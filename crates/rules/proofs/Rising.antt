@@ -13,7 +13,7 @@ use Rattle.rules.specs.Sets.{apart, size}
 use Rattle.rules.specs.Needs.{Need, meets}
 use Rattle.rules.specs.Jobs.{Job, safe, unlinked}
 use Rattle.rules.specs.Splits.{proper, allUnlinked, met, correct}
-use Rattle.rules.specs.Plans.{insert, rising, cost}
+use Rattle.rules.specs.Plans.{putIn, rising, cost}
 use Rattle.rules.proofs.Lists.{and-parts, every-in}
 use Rattle.rules.proofs.Sets.{apart-sym, apart-differ}
 use Rattle.rules.proofs.Splits.{proper-means}
@@ -22,20 +22,20 @@ use Rattle.rules.proofs.Splits.{proper-means}
 
 module _ {A : Type 0} (gather : List ℕ → A) (add : ℕ → A → A) (step : (s : ℕ) (split : List ℕ) → gather (s ∷ split) ≡ add s (gather split))
     (swap : (s t : ℕ) (a : A) → add s (add t a) ≡ add t (add s a)) where
-  gather-insert : (s : ℕ) (split : List ℕ) → gather (insert s split) ≡ add s (gather split)
-  unfolding insert
-  gather-insert s [] = step s []
-  gather-insert s (t ∷ split) = go (leb s t) (gather-insert s split)
+  gather-putIn : (s : ℕ) (split : List ℕ) → gather (putIn s split) ≡ add s (gather split)
+  unfolding putIn
+  gather-putIn s [] = step s []
+  gather-putIn s (t ∷ split) = go (leb s t) (gather-putIn s split)
     where
-      go : (b : Bool) → gather (insert s split) ≡ add s (gather split)
-          → gather (cond b (s ∷ t ∷ split) (t ∷ insert s split)) ≡ add s (gather (t ∷ split))
+      go : (b : Bool) → gather (putIn s split) ≡ add s (gather split)
+          → gather (cond b (s ∷ t ∷ split) (t ∷ putIn s split)) ≡ add s (gather (t ∷ split))
       go true e = step s (t ∷ split)
-      go false e = step t (insert s split) ∙ ap (add t) e ∙ swap t s (gather split) ∙ ap (add s) (sym (step t split))
+      go false e = step t (putIn s split) ∙ ap (add t) e ∙ swap t s (gather split) ∙ ap (add s) (sym (step t split))
 
   gather-rising : (split : List ℕ) → gather (rising split) ≡ gather split
   unfolding rising
   gather-rising [] = refl
-  gather-rising (s ∷ split) = gather-insert s (rising split) ∙ ap (add s) (gather-rising split) ∙ sym (step s split)
+  gather-rising (s ∷ split) = gather-putIn s (rising split) ∙ ap (add s) (gather-rising split) ∙ sym (step s split)
 
 and-swap : (a b c : Bool) → (a && (b && c)) ≡ (b && (a && c))
 and-swap true b c = refl
@@ -58,9 +58,9 @@ pub cost-rising : (job : Job) (split : List ℕ) → cost job (rising split) ≡
 unfolding cost
 cost-rising job = gather-rising (cost job) (λ s n. size s + n) (λ s split. refl) (λ s t n. omega arith)
 
-every-insert : (p : ℕ → Bool) (s : ℕ) (split : List ℕ) → every p (insert s split) ≡ (p s && every p split)
+every-putIn : (p : ℕ → Bool) (s : ℕ) (split : List ℕ) → every p (putIn s split) ≡ (p s && every p split)
 unfolding every
-every-insert p = gather-insert (every p) (λ s b. p s && b) (λ s split. refl) (λ s t b. and-swap (p s) (p t) b)
+every-putIn p = gather-putIn (every p) (λ s b. p s && b) (λ s split. refl) (λ s t b. and-swap (p s) (p t) b)
 
 pub every-rising : (p : ℕ → Bool) (split : List ℕ) → every p (rising split) ≡ every p split
 unfolding every
@@ -74,23 +74,23 @@ unlinked-sym : (job : Job) (s t : ℕ) → unlinked job s t ≡ unlinked job t s
 unfolding unlinked
 unlinked-sym job s t = apart-sym s t
 
-unlinked-insert : (job : Job) (s : ℕ) (split : List ℕ) → allUnlinked job (insert s split) ≡ allUnlinked job (s ∷ split)
-unfolding insert allUnlinked every
-unlinked-insert job s [] = refl
-unlinked-insert job s (t ∷ split) = go (leb s t) (unlinked-insert job s split)
+unlinked-putIn : (job : Job) (s : ℕ) (split : List ℕ) → allUnlinked job (putIn s split) ≡ allUnlinked job (s ∷ split)
+unfolding putIn allUnlinked every
+unlinked-putIn job s [] = refl
+unlinked-putIn job s (t ∷ split) = go (leb s t) (unlinked-putIn job s split)
   where
-    go : (b : Bool) → allUnlinked job (insert s split) ≡ (every (unlinked job s) split && allUnlinked job split)
-        → allUnlinked job (cond b (s ∷ t ∷ split) (t ∷ insert s split)) ≡ allUnlinked job (s ∷ t ∷ split)
+    go : (b : Bool) → allUnlinked job (putIn s split) ≡ (every (unlinked job s) split && allUnlinked job split)
+        → allUnlinked job (cond b (s ∷ t ∷ split) (t ∷ putIn s split)) ≡ allUnlinked job (s ∷ t ∷ split)
     go true e = refl
     go false e =
-        rw (every-insert (unlinked job t) s split, e, unlinked-sym job t s)
+        rw (every-putIn (unlinked job t) s split, e, unlinked-sym job t s)
         (and-cross (unlinked job s t) (every (unlinked job t) split) (every (unlinked job s) split) (allUnlinked job split))
 
 pub unlinked-rising : (job : Job) (split : List ℕ) → allUnlinked job (rising split) ≡ allUnlinked job split
 unfolding rising allUnlinked
 unlinked-rising job [] = refl
 unlinked-rising job (s ∷ split) =
-    unlinked-insert job s (rising split) ∙ ap₂ _&&_ (every-rising (unlinked job s) split) (unlinked-rising job split)
+    unlinked-putIn job s (rising split) ∙ ap₂ _&&_ (every-rising (unlinked job s) split) (unlinked-rising job split)
 
 met-rising : (split : List ℕ) → met (rising split) ≡ met split
 unfolding met
@@ -114,17 +114,17 @@ rises-above (next f r) = f
 pub rises-rest : {s : ℕ} {split : List ℕ} → Rises (s ∷ split) → Rises split
 rises-rest (next f r) = r
 
-pub insert-in : (s t : ℕ) (split : List ℕ) → List·Memᴰ t (insert s split) → List·Memᴰ t (s ∷ split)
-unfolding insert
-insert-in s t [] m = m
-insert-in s t (r ∷ split) m = go (leb s r) (insert-in s t split) m
+pub putIn-in : (s t : ℕ) (split : List ℕ) → List·Memᴰ t (putIn s split) → List·Memᴰ t (s ∷ split)
+unfolding putIn
+putIn-in s t [] m = m
+putIn-in s t (r ∷ split) m = go (leb s r) (putIn-in s t split) m
   where
     later : List·Memᴰ t (s ∷ split) → List·Memᴰ t (s ∷ r ∷ split)
     later (List·Memᴰ·head e) = List·Memᴰ·head e
     later (List·Memᴰ·tail i) = List·Memᴰ·tail (List·Memᴰ·tail i)
 
-    go : (b : Bool) → (List·Memᴰ t (insert s split) → List·Memᴰ t (s ∷ split))
-        → List·Memᴰ t (cond b (s ∷ r ∷ split) (r ∷ insert s split)) → List·Memᴰ t (s ∷ r ∷ split)
+    go : (b : Bool) → (List·Memᴰ t (putIn s split) → List·Memᴰ t (s ∷ split))
+        → List·Memᴰ t (cond b (s ∷ r ∷ split) (r ∷ putIn s split)) → List·Memᴰ t (s ∷ r ∷ split)
     go true f i = i
     go false f (List·Memᴰ·head e) = List·Memᴰ·tail (List·Memᴰ·head e)
     go false f (List·Memᴰ·tail i) = later (f i)
@@ -132,36 +132,36 @@ insert-in s t (r ∷ split) m = go (leb s r) (insert-in s t split) m
 pub rising-in : (t : ℕ) (split : List ℕ) → List·Memᴰ t (rising split) → List·Memᴰ t split
 unfolding rising
 rising-in t [] m = m
-rising-in t (s ∷ split) m = go (insert-in s t (rising split) m) (rising-in t split)
+rising-in t (s ∷ split) m = go (putIn-in s t (rising split) m) (rising-in t split)
   where
     go : List·Memᴰ t (s ∷ rising split) → (List·Memᴰ t (rising split) → List·Memᴰ t split) → List·Memᴰ t (s ∷ split)
     go (List·Memᴰ·head e) f = List·Memᴰ·head e
     go (List·Memᴰ·tail i) f = List·Memᴰ·tail (f i)
 
 pub rises-written : {split : List ℕ} → Rises split → rising split ≡ split
-unfolding rising insert
+unfolding rising putIn
 rises-written none = refl
-rises-written (next {s} {split} f r) = ap (insert s) (rises-written r) ∙ front split f
+rises-written (next {s} {split} f r) = ap (putIn s) (rises-written r) ∙ front split f
   where
-    front : (split : List ℕ) → ((t : ℕ) → List·Memᴰ t split → s < t) → insert s split ≡ s ∷ split
+    front : (split : List ℕ) → ((t : ℕ) → List·Memᴰ t split → s < t) → putIn s split ≡ s ∷ split
     front [] f = refl
     front (t ∷ split) f = let l : s < t = f t (List·Memᴰ·head refl) in rw (le-leb s t (omega arith))
 
-insert-rises : (s : ℕ) {split : List ℕ} → Rises split → ((t : ℕ) → List·Memᴰ t split → s ≡ t → ⊥) → Rises (insert s split)
-unfolding insert
-insert-rises s none f = next {s = s} {split = []} (λ t m. elim m [ ]) none
-insert-rises s (next {s = r} {split} g n) f = go (leb s r) refl (insert-rises s n (λ t m. f t (List·Memᴰ·tail m)))
+putIn-rises : (s : ℕ) {split : List ℕ} → Rises split → ((t : ℕ) → List·Memᴰ t split → s ≡ t → ⊥) → Rises (putIn s split)
+unfolding putIn
+putIn-rises s none f = next {s = s} {split = []} (λ t m. elim m [ ]) none
+putIn-rises s (next {s = r} {split} g n) f = go (leb s r) refl (putIn-rises s n (λ t m. f t (List·Memᴰ·tail m)))
   where
     apart : s ≡ r → ⊥
     apart = f r (List·Memᴰ·head refl)
 
-    go : (b : Bool) → leb s r ≡ b → Rises (insert s split) → Rises (cond b (s ∷ r ∷ split) (r ∷ insert s split))
+    go : (b : Bool) → leb s r ≡ b → Rises (putIn s split) → Rises (cond b (s ∷ r ∷ split) (r ∷ putIn s split))
     go true e h = next before (next g n)
       where
         before : (t : ℕ) → List·Memᴰ t (r ∷ split) → s < t
         before t (List·Memᴰ·head q) = omega (arith, leb-true s r e, apart)
         before t (List·Memᴰ·tail m) = omega (arith, leb-true s r e, g t m)
-    go false e h = next (λ t m. after t (insert-in s t split m)) h
+    go false e h = next (λ t m. after t (putIn-in s t split m)) h
       where
         after : (t : ℕ) → List·Memᴰ t (s ∷ split) → r < t
         after t (List·Memᴰ·head q) = omega (arith, leb-false s r e)
@@ -175,7 +175,7 @@ correct-rises job [] h p u = none
 correct-rises job (s ∷ split) h p u =
     let here = and-parts (proper job s) (every (proper job) split) p in
     let links = and-parts (every (unlinked job s) split) (allUnlinked job split) u in
-    insert-rises s (correct-rises job split h (here .1) (links .1))
+    putIn-rises s (correct-rises job split h (here .1) (links .1))
     (λ t m e. different t (here .0) (every-in (unlinked job s) (links .0) (rising-in t split m)) e)
   where
     different : (t : ℕ) → proper job s ≡ true → unlinked job s t ≡ true → s ≡ t → ⊥

@@ -10,7 +10,7 @@ use Rattle.rules.specs.Jobs.{safe, unlinked}
 use Rattle.rules.specs.Numbers.{unfit, jobOf, absent, columnsUnfit, setsTooMany, setUnfit, unclosed, markUnfit, needsTooMany}
 use Rattle.rules.specs.Numbers.{needUnfit, markless, joinsTooFew, leavesOther, columnMarksTooMany}
 use Rattle.rules.specs.Splits.{proper, allUnlinked, met, correct}
-use Rattle.rules.specs.Plans.{insert, rising, cost, rank, notAfter, choices, splits, better, best, plan}
+use Rattle.rules.specs.Plans.{putIn, rising, cost, rank, notAfter, choices, splits, better, best, plan}
 use Rattle.rules.specs.Conditions.{meetsChosen, condition}
 use Rattle.rules.specs.Diagrams.{alike, placeOf, withNode, over, grow, diagramOf, diagram, nodeAt}
 use Rattle.rules.specs.Paths.{pathsFrom, onePathsOf, onePaths}
@@ -20,6 +20,6 @@ use Rattle.rules.specs.SmallTable.{Row, answerOfJob, answer, table}
 pub table-holds : map (λ (r : Row). answer (r .asked) (r .given)) table ≡ map (λ (r : Row). r .stated) table
 unfolding every anyOf keep firstWhere upFrom members contains apart size meets inFront rows joined after operandsOf only needOf needsOf safe
     unlinked columnsUnfit setsTooMany setUnfit unclosed markless absent joinsTooFew leavesOther markUnfit columnMarksTooMany needUnfit
-    needsTooMany unfit jobOf proper allUnlinked met correct insert rising cost rank notAfter choices splits better best plan meetsChosen
+    needsTooMany unfit jobOf proper allUnlinked met correct putIn rising cost rank notAfter choices splits better best plan meetsChosen
     condition alike placeOf withNode over grow diagramOf diagram nodeAt pathsFrom onePathsOf onePaths answerOfJob answer table bind
 table-holds = refl

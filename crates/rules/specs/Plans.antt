@@ -13,14 +13,14 @@ use Rattle.rules.specs.Jobs.{Job, safe, unlinked}
 use Rattle.rules.specs.Splits.{correct}
 
 -- a number put in before the first that is not smaller
-unfoldable pub insert : ℕ → List ℕ → List ℕ
-insert s [] = s ∷ []
-insert s (t ∷ split) = cond (leb s t) (s ∷ t ∷ split) (t ∷ insert s split)
+unfoldable pub putIn : ℕ → List ℕ → List ℕ
+putIn s [] = s ∷ []
+putIn s (t ∷ split) = cond (leb s t) (s ∷ t ∷ split) (t ∷ putIn s split)
 
 -- "written as rising numbers"
 unfoldable pub rising : List ℕ → List ℕ
 rising [] = []
-rising (s ∷ split) = insert s (rising split)
+rising (s ∷ split) = putIn s (rising split)
 
 -- "columns in all"
 unfoldable pub cost : Job → List ℕ → ℕ
