@@ -6,6 +6,7 @@ use Prim.Native.Nat.{ℕ}
 use lib.Dec.{eqb}
 use Rattle.rules.specs.Needs.{Need, column, both, either}
 
+-- "16 and, 17 or, 18 the end of a need"
 abbrev pub andMark : ℕ
 andMark = 16
 

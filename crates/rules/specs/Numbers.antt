@@ -71,6 +71,7 @@ markUnfit n m = ltb endMark m || (ltb m andMark && leb n m)
 unfoldable pub columnMarksTooMany : List ℕ → Bool
 columnMarksTooMany row = ltb mostColumnMarks (length (keep (λ m. ltb m andMark) row))
 
+-- one of the four clauses on a single need holds
 unfoldable pub needUnfit : List ℕ → Bool
 needUnfit row = markless row || joinsTooFew row || leavesOther row || columnMarksTooMany row
 

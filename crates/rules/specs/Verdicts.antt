@@ -24,6 +24,7 @@ pub data Verdict : Type 0 where
   unmet : ℕ → Verdict
   right : Verdict
 
+-- two indices of an answer
 pub record Places : Type 0 where
   pub i : ℕ
   pub j : ℕ
