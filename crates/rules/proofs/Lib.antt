@@ -1,5 +1,6 @@
 -- The laws of the definitions in specs/, a file for each subject, in the order in which they build on each other.
 pub mod Lists
+pub mod Searches
 pub mod Counting
 pub mod SetBits
 pub mod Sets
@@ -13,6 +14,7 @@ pub mod Choices
 pub mod Plans
 pub mod Useful
 pub mod Verdicts
+pub mod FirstFaults
 pub mod Demands
 pub mod Nodes
 pub mod Diagrams

@@ -25,6 +25,12 @@ module _ {A : Type 0} where
   firstWhere p [] = none
   firstWhere p (x ∷ xs) = cond (p x) (some 0) (Option·map suc (firstWhere p xs))
 
+  -- a list written over the first places of another, as far as there are places; the places after it stay
+  unfoldable pub written : List A → List A → List A
+  written [] old = old
+  written (x ∷ new) [] = []
+  written (x ∷ new) (y ∷ old) = x ∷ written new old
+
 -- the numbers from i on, k of them
 unfoldable pub upFrom : ℕ → ℕ → List ℕ
 upFrom i zero = []

@@ -26,6 +26,11 @@ unfoldable pub rows : List ℕ → List (List ℕ)
 rows [] = []
 rows (m ∷ marks) = cond (eqb m endMark) ([] ∷ rows marks) (inFront m (rows marks))
 
+-- the marks before the first end mark
+unfoldable pub beforeEnd : List ℕ → List ℕ
+beforeEnd [] = []
+beforeEnd (m ∷ marks) = cond (eqb m endMark) [] (m ∷ beforeEnd marks)
+
 -- a join of the last two operands, the later one being the right side; there must be two
 unfoldable pub joined : (Need → Need → Need) → List Need → Option (List Need)
 joined join [] = none

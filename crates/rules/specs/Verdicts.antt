@@ -3,13 +3,14 @@
 -- "An unfit job gives 7."
 use mathlib.Core.Bool.{not}
 use mathlib.Core.List.{List, [], _∷_}
-use mathlib.Core.Option.{Option, none, Option·map, Option·getD, orElse}
+use mathlib.Core.Option.{Option, none, some, Option·map, Option·getD, orElse}
 use Prim.Native.Nat.{ℕ, suc}
 use Rattle.rules.specs.Lists.{firstWhere}
 use Rattle.rules.specs.Sets.{contains}
 use Rattle.rules.specs.Jobs.{Job, unlinked}
 use Rattle.rules.specs.Numbers.{Numbers, jobOf}
 use Rattle.rules.specs.Splits.{proper, met}
+use Rattle.rules.specs.Refusals.{numbersUnfit}
 
 pub data Verdict : Type 0 where
   -- refusal 7
@@ -23,6 +24,24 @@ pub data Verdict : Type 0 where
   -- need k is met by no extract
   unmet : ℕ → Verdict
   right : Verdict
+
+-- the refusal's number of an answer: "An unfit job gives 7", and no other answer refuses
+unfoldable pub refusalOf : Verdict → Option ℕ
+refusalOf unfitJob = some numbersUnfit
+refusalOf (improper i) = none
+refusalOf (forbids i j) = none
+refusalOf (shares i j) = none
+refusalOf (unmet k) = none
+refusalOf right = none
+
+-- the values that come with an answer, in the order of the sentence
+unfoldable pub valuesOf : Verdict → List ℕ
+valuesOf unfitJob = []
+valuesOf (improper i) = i ∷ []
+valuesOf (forbids i j) = i ∷ j ∷ []
+valuesOf (shares i j) = i ∷ j ∷ []
+valuesOf (unmet k) = k ∷ []
+valuesOf right = []
 
 -- two indices of an answer
 pub record Places : Type 0 where

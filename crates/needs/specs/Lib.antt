@@ -1,0 +1,2 @@
+-- What the contracts of needs cite besides the rules.
+pub mod Lanes
