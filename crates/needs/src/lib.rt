@@ -1,5 +1,8 @@
 // A need, as a row of marks, evaluated on sets of columns: on 64 sets at once, each a bit of a word, or on one.
 use columns::ColumnSet;
+use job::rows::AND_MARK;
+use job::rows::END_MARK;
+use job::rows::OR_MARK;
 ghost use mathlib.Core.Path.{_≡_};
 ghost use mathlib.Core.Bool.{cond};
 ghost use mathlib.Core.Option.{some};
@@ -19,12 +22,6 @@ const LOW_COLUMNS: [u64; 6] = [
     0xFFFF_0000_FFFF_0000,
     0xFFFF_FFFF_0000_0000,
 ];
-
-pub const AND_MARK: u16 = 16;
-
-pub const OR_MARK: u16 = 17;
-
-pub const END_MARK: u16 = 18;
 
 // Which sets of a block have the column.
 pub fn column_lanes(column: u16, block: u16) -> u64

@@ -1,12 +1,14 @@
 -- The laws of the definitions in specs/, a file for each subject, in the order in which they build on each other.
 pub mod Lists
 pub mod Searches
+pub mod Written
 pub mod Counting
 pub mod SetBits
 pub mod Sets
 pub mod SetSizes
 pub mod Needs
 pub mod Numbers
+pub mod Marks
 pub mod Splits
 pub mod Orders
 pub mod Rising

@@ -62,7 +62,7 @@ unfolding absent
 present none e = absurd (true≢false e)
 present (some a) e = (a, refl)
 
-row-need : (row : List ℕ) → needUnfit row ≡ false → (v : Need) × (needOf row ≡ some v)
+pub row-need : (row : List ℕ) → needUnfit row ≡ false → (v : Need) × (needOf row ≡ some v)
 unfolding leavesOther
 row-need row e = present (needOf row) (need-clauses row e .leaves)
 
@@ -111,9 +111,14 @@ fit-job q e =
       },
     )
 
-pub job-fit : (q : Numbers) (job : Job) → jobOf q ≡ some job → JobOf q job
-job-fit q job e = go (unfit q) refl
+pub fit-of-job : (q : Numbers) (job : Job) → jobOf q ≡ some job → unfit q ≡ false
+fit-of-job q job e = go (unfit q) refl
   where
-    go : (b : Bool) → unfit q ≡ b → JobOf q job
+    go : (b : Bool) → unfit q ≡ b → unfit q ≡ false
     go true u = absurd (Option·none-ne-some job (sym (unfit-none q u) ∙ e))
-    go false u = let f = fit-job q u in rw (Option·some-injective (f .0) job (sym (f .1 .same) ∙ e)) at (f .1)
+    go false u = u
+
+pub job-fit : (q : Numbers) (job : Job) → jobOf q ≡ some job → JobOf q job
+job-fit q job e =
+    let f = fit-job q (fit-of-job q job e) in
+    rw (Option·some-injective (f .0) job (sym (f .1 .same) ∙ e)) at (f .1)

@@ -30,3 +30,8 @@ module _ {A : Type 0} (p : A → Bool) (d : A) where
   nothing-found (x ∷ xs) before =
       let here : p x ≡ false = before 0 (omega arith) in
       rw (here, nothing-found xs (none-later x xs (length xs) before))
+
+  pub first-same : (q : A → Bool) → ((x : A) → p x ≡ q x) → (xs : List A) → firstWhere p xs ≡ firstWhere q xs
+  unfolding firstWhere
+  first-same q same [] = refl
+  first-same q same (x ∷ xs) = rw (same x, first-same q same xs)

@@ -1,0 +1,4 @@
+-- What the contracts of job cite besides the rules.
+pub mod Findings
+pub mod Records
+pub mod Rows

@@ -1,0 +1,84 @@
+-- What the searches of the judge find, one after the other, is the answer for the numbers. Assumes nothing.
+use mathlib.Core.Path.{_≡_, sym, ap, subst, _∙_}
+use mathlib.Core.Bool.{true, false, not}
+use mathlib.Core.List.{List}
+use mathlib.Core.Option.{Option, none, some}
+use Prim.Native.Nat.{ℕ, _≤_}
+use lib.ListN.{length}
+use Rattle.rules.specs.Lists.{firstWhere}
+use Rattle.rules.specs.Marks.{rows}
+use Rattle.rules.specs.Jobs.{Job}
+use Rattle.rules.specs.Numbers.{Numbers, unfit, setUnfit, jobOf}
+use Rattle.rules.specs.Splits.{proper, met}
+use Rattle.rules.specs.Verdicts.{unfitJob, improper, forbids, shares, unmet, right, Places, firstForbidden, firstSharing, judged}
+use Rattle.rules.proofs.Searches.{first-same}
+use Rattle.rules.proofs.Numbers.{unfit-none, fit-job, job-fit}
+use Rattle.rules.proofs.Verdicts.{judged-job, judged-unfit}
+use Rattle.rules.proofs.FirstFaults.{says-improper, says-forbids, says-shares, says-unmet, says-right, unfit-improper}
+use Rattle.job.specs.Records.{jobWith, loaded}
+use Rattle.job.specs.Rows.{rowsOf, StandFor}
+use Rattle.job.specs.declared.Job.{Job as Held}
+use Rattle.job.specs.declared.Loaded.{Loaded}
+use Rattle.job.proofs.Records.{loaded-fit, loaded-unfit}
+use Rattle.job.proofs.RowNeeds.{as-many-needs, row-need}
+
+-- ---- what loading tells
+
+pub not-loaded : (q : Numbers) (split : List ℕ) (l : Loaded) → l ≡ loaded q → l .fit ≡ false → judged q split ≡ unfitJob
+not-loaded q split l e f = judged-unfit q split (unfit-none q (loaded-unfit q l e f))
+
+-- the job of numbers that were loaded
+pub record Known (q : Numbers) (l : Loaded) : Type 0 where
+  pub job : Job
+  pub known : jobOf q ≡ some job
+  pub columns : l .job .columns ≡ q .columns
+  pub many : length (job .needs) ≡ l .job .needs
+  pub few : l .job .needs ≤ 8
+  pub stand : StandFor (rowsOf (rows (q .marks))) (job .needs)
+
+pub is-loaded : (q : Numbers) (l : Loaded) → l ≡ loaded q → l .fit ≡ true → Known q l
+unfolding jobWith
+is-loaded q l e f =
+    let fit = loaded-fit q l e f in
+    let j = fit-job q (fit .0) in
+    let many : length (j .0 .needs) ≡ l .job .needs = as-many-needs q (j .0) (j .1 .same) ∙ sym (ap (λ (job : Held). job .needs) (fit .1)) in
+    record {
+      job = j .0;
+      known = j .1 .same;
+      columns = ap (λ (job : Held). job .columns) (fit .1);
+      many = many;
+      few = subst (λ (count : ℕ). count ≤ 8) many (j .1 .fewNeeds);
+      stand = row-need q (j .0) (j .1 .same);
+    }
+
+-- ---- what the searches tell
+
+-- a search with the job's number of columns is one with the number given
+pub same-columns : {n m : ℕ} {o : Option ℕ} (split : List ℕ) → m ≡ n → firstWhere (setUnfit m) split ≡ o → firstWhere (setUnfit n) split ≡ o
+same-columns split e found = rw (← e) found
+
+module _ (q : Numbers) (split : List ℕ) (job : Job) (known : jobOf q ≡ some job) where
+  as-improper : firstWhere (λ s. not (proper job s)) split ≡ firstWhere (setUnfit (q .columns)) split
+  as-improper =
+      sym (first-same (setUnfit (q .columns)) 0 (λ s. not (proper job s)) (λ s. unfit-improper job (q .columns) s (job-fit q job known .columns)) split)
+
+  as-forbidden : firstForbidden (job .forbidden) split ≡ firstForbidden (q .forbidden) split
+  as-forbidden = ap (λ (sets : List ℕ). firstForbidden sets split) (job-fit q job known .forbidden)
+
+  pub answer-improper : (i : ℕ) → firstWhere (setUnfit (q .columns)) split ≡ some i → judged q split ≡ improper i
+  answer-improper i e = judged-job q job split known ∙ says-improper job split i (as-improper ∙ e)
+
+  module _ (proper : firstWhere (setUnfit (q .columns)) split ≡ none) where
+    pub answer-forbids : (p : Places) → firstForbidden (q .forbidden) split ≡ some p → judged q split ≡ forbids (p .i) (p .j)
+    answer-forbids p e = judged-job q job split known ∙ says-forbids job split (as-improper ∙ proper) p (as-forbidden ∙ e)
+
+    module _ (safe : firstForbidden (q .forbidden) split ≡ none) where
+      pub answer-shares : (p : Places) → firstSharing job split ≡ some p → judged q split ≡ shares (p .i) (p .j)
+      answer-shares p e = judged-job q job split known ∙ says-shares job split (as-improper ∙ proper) (as-forbidden ∙ safe) p e
+
+      module _ (unlinked : firstSharing job split ≡ none) where
+        pub answer-unmet : (k : ℕ) → firstWhere (λ v. not (met split v)) (job .needs) ≡ some k → judged q split ≡ unmet k
+        answer-unmet k e = judged-job q job split known ∙ says-unmet job split (as-improper ∙ proper) (as-forbidden ∙ safe) unlinked k e
+
+        pub answer-right : firstWhere (λ v. not (met split v)) (job .needs) ≡ none → judged q split ≡ right
+        answer-right e = judged-job q job split known ∙ says-right job split (as-improper ∙ proper) (as-forbidden ∙ safe) unlinked e

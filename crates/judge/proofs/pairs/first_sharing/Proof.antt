@@ -1,0 +1,131 @@
+-- `judge::pairs::first_sharing` meets its contract. Assumes nothing.
+use mathlib.Core.Path.{_≡_, refl, sym, _∙_}
+use Prim.Native.Nat.{_<_, _≤_, _-_}
+use native.Mathlib.Omega.{arith}
+use borrow.Author.Count.{below-more}
+use borrow.Author.Tests.{not-true, not-false}
+use lib.ListN.{length, getD}
+use Rattle.rules.specs.Jobs.{Job}
+use Rattle.rules.proofs.FirstFaults.{UnlinkedTo, UnlinkedBefore, sharing-found, sharing-nothing, unlinked-apart}
+use Rattle.judge.specs.declared.pairs.Pair.the-variants.{Nothing}
+use borrow.Author.Needs.{needs}
+use Rattle.judge.proofs.pairs.first_sharing.Statement.{statement}
+use Rattle.judge.proofs.pairs.first_sharing.Tie as tie
+use Rattle.judge.proofs.pairs.first_sharing.Reads as reads
+use Rattle.judge.proofs.pairs.first_sharing.Lts as lts
+use Rattle.columns.proofs.ColumnSet.apart.Reads as apart-reads
+
+abbrev Inv-loop : tie.InvT-loop
+Inv-loop split found₀ i j₀ found j = (i < j) × (j ≤ length split) × (found ≡ Nothing) × ((job : Job) → UnlinkedTo job split i j)
+
+abbrev μ-loop : tie.MeasureT-loop
+μ-loop split found₀ i j₀ found j = length split - j
+
+abbrev Inv-search : tie.InvT-search
+Inv-search split found₀ i₀ found i = (i ≤ length split) × (found ≡ Nothing) × ((job : Job) → UnlinkedBefore job split i)
+
+abbrev μ-search : tie.MeasureT-search
+μ-search split found₀ i₀ found i = length split - i
+
+-- src/pairs.rt:54:5
+search-holds : tie.Need-search-holds Inv-loop μ-loop Inv-search μ-search
+search-holds c = (search needs, refl, λ job k h. absurd (omega arith))
+
+-- src/pairs.rt:55:21
+add-j : tie.Need-add-j Inv-loop μ-loop Inv-search μ-search
+add-j c = search needs
+
+-- src/pairs.rt:56:9
+loop-holds : tie.Need-loop-holds Inv-loop μ-loop Inv-search μ-search
+loop-holds c = (omega arith, omega arith, c .before .search .inv .1, λ job k h g. absurd (omega arith))
+
+-- src/pairs.rt:57:36
+mul-t7 : tie.Need-mul-t7 Inv-loop μ-loop Inv-search μ-search
+mul-t7 c = search needs
+
+-- src/pairs.rt:57:36
+shared-slice-read-t10 : tie.Need-shared-slice-read-t10 Inv-loop μ-loop Inv-search μ-search
+shared-slice-read-t10 c = search needs
+
+-- src/pairs.rt:57:72
+mul-t12 : tie.Need-mul-t12 Inv-loop μ-loop Inv-search μ-search
+mul-t12 c = search needs
+
+-- src/pairs.rt:57:72
+shared-slice-read-t14 : tie.Need-shared-slice-read-t14 Inv-loop μ-loop Inv-search μ-search
+shared-slice-read-t14 c = search needs
+
+-- src/pairs.rt:57:17
+apart-requires : tie.Need-apart-requires Inv-loop μ-loop Inv-search μ-search
+apart-requires c κs = search needs
+
+-- src/pairs.rt:61:13
+add-j-2 : tie.Need-add-j-2 Inv-loop μ-loop Inv-search μ-search
+add-j-2 c = search needs
+
+-- src/pairs.rt:56:9
+loop-less : tie.Need-loop-less Inv-loop μ-loop Inv-search μ-search
+loop-less c = search needs
+
+-- src/pairs.rt:56:9
+loop-again : tie.Need-loop-again Inv-loop μ-loop Inv-search μ-search
+loop-again c =
+    let l = c .before .before .before .before .before .loop in
+    (omega arith, omega arith, l .inv .2, λ job. below-more _ (l .j) (l .inv .3 job) (λ g. unlinked-apart job _ _ ∙ sym (c .before .apart .ensures) ∙ not-false _ (c .if1 .left)))
+
+-- src/pairs.rt:63:9
+add-i : tie.Need-add-i Inv-loop μ-loop Inv-search μ-search
+add-i c = search needs
+
+-- src/pairs.rt:54:5
+search-less : tie.Need-search-less Inv-loop μ-loop Inv-search μ-search
+search-less c = search needs
+
+-- src/pairs.rt:54:5
+search-again : tie.Need-search-again Inv-loop μ-loop Inv-search μ-search
+search-again c =
+    let l = c .before .loop in
+    let o = c .before .before .before .search in
+    let last : l .j ≡ length (c .before .before .before .before .before .args .split .now) = omega arith in
+    (omega arith, l .inv .2, λ job. below-more _ (o .i) (o .inv .2 job) (rw last at (l .inv .3 job)))
+
+-- src/pairs.rt:49:1
+returns : tie.Need-returns Inv-loop μ-loop Inv-search μ-search
+returns c =
+    let o = c .before .search in
+    let split = c .before .before .before .args .split .now in
+    let last : o .i ≡ length split = omega arith in
+    λ job. rw (o .inv .1) (sym (sharing-nothing job split (rw last at (o .inv .2 job))))
+
+-- src/pairs.rt:49:1
+returns-2 : tie.Need-returns-2 Inv-loop μ-loop Inv-search μ-search
+returns-2 c =
+    let l = c .before .before .before .before .before .loop in
+    let o = c .before .before .before .before .before .before .before .search in
+    let split = c .before .before .before .before .before .before .before .before .before .args .split .now in
+    λ job. sym (sharing-found job split (o .i) (l .j) (l .inv .0) (omega arith) (o .inv .2 job) (l .inv .3 job) (unlinked-apart job _ _ ∙ sym (c .before .apart .ensures) ∙ not-true _ (c .if1 .taken)))
+
+pub first-sharing-spec : {M : Type 1} → statement M
+first-sharing-spec =
+    tie.close
+    (tie.spec
+    Inv-loop
+    μ-loop
+    Inv-search
+    μ-search
+    search-holds
+    add-j
+    loop-holds
+    mul-t7
+    shared-slice-read-t10
+    mul-t12
+    shared-slice-read-t14
+    apart-requires
+    add-j-2
+    loop-less
+    loop-again
+    add-i
+    search-less
+    search-again
+    returns
+    returns-2)

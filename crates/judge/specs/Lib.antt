@@ -1,0 +1,3 @@
+-- What the contracts of judge cite besides the rules.
+pub mod Answers
+pub mod Promises

@@ -1,0 +1,57 @@
+-- Laws of a list written over the first places of another. Assumes nothing.
+use mathlib.Core.Path.{_≡_, refl, ap}
+use mathlib.Core.List.{List, [], _∷_}
+use Prim.Native.Nat.{ℕ, zero, suc, _+_, _≤_, _<_}
+use native.Mathlib.Numerals.{add-one}
+use native.Mathlib.Omega.{arith}
+use lib.ListN.{length, getD, set, take}
+use Rattle.rules.specs.Lists.{written}
+
+module _ {A : Type 0} where
+  pub length-written : (new old : List A) → length (written new old) ≡ length old
+  unfolding written
+  length-written [] old = refl
+  length-written (x ∷ new) [] = refl
+  length-written (x ∷ new) (y ∷ old) = ap suc (length-written new old)
+
+  one-more : (i : ℕ) (new old : List A) (d : A) → i < length new → i < length old
+      → set (written (take i new) old) i (getD new i d) ≡ written (take (suc i) new) old
+  unfolding written
+  one-more i [] old d h l = absurd (omega arith)
+  one-more i (x ∷ new) [] d h l = absurd (omega arith)
+  one-more zero (x ∷ new) (y ∷ old) d h l = refl
+  one-more (suc i) (x ∷ new) (y ∷ old) d h l = ap (λ (s : List A). x ∷ s) (one-more i new old d (omega arith) (omega arith))
+
+  pub written-more : (i : ℕ) (new old : List A) (d : A) → i < length new → i < length old
+      → set (written (take i new) old) i (getD new i d) ≡ written (take (i + 1) new) old
+  written-more i new old d h l = rw add-one (one-more i new old d h l)
+
+  -- what has no place is not written
+  pub written-full : (i : ℕ) (new old : List A) → length old ≤ i → written (take i new) old ≡ written new old
+  unfolding written
+  written-full zero [] [] h = refl
+  written-full zero (x ∷ new) [] h = refl
+  written-full zero new (y ∷ old) h = absurd (omega arith)
+  written-full (suc i) [] old h = refl
+  written-full (suc i) (x ∷ new) [] h = refl
+  written-full (suc i) (x ∷ new) (y ∷ old) h = ap (λ (s : List A). x ∷ s) (written-full i new old (omega arith))
+
+  pub take-written : (new old : List A) → length new ≤ length old → take (length new) (written new old) ≡ new
+  unfolding written
+  take-written [] old h = refl
+  take-written (x ∷ new) [] h = absurd (omega arith)
+  take-written (x ∷ new) (y ∷ old) h = ap (λ (s : List A). x ∷ s) (take-written new old (omega arith))
+
+  pub getD-written : (new old : List A) (k : ℕ) (d : A) → k < length new → k < length old → getD (written new old) k d ≡ getD new k d
+  unfolding written
+  getD-written [] old k d h l = absurd (omega arith)
+  getD-written (x ∷ new) [] k d h l = absurd (omega arith)
+  getD-written (x ∷ new) (y ∷ old) zero d h l = refl
+  getD-written (x ∷ new) (y ∷ old) (suc k) d h l = getD-written new old k d (omega arith) (omega arith)
+
+  pub getD-unwritten : (new old : List A) (k : ℕ) (d : A) → length new ≤ k → getD (written new old) k d ≡ getD old k d
+  unfolding written
+  getD-unwritten [] old k d h = refl
+  getD-unwritten (x ∷ new) [] k d h = refl
+  getD-unwritten (x ∷ new) (y ∷ old) zero d h = absurd (omega arith)
+  getD-unwritten (x ∷ new) (y ∷ old) (suc k) d h = getD-unwritten new old k d (omega arith)

@@ -1,0 +1,2 @@
+-- What the contracts of tables cite besides the rules.
+pub mod Tables

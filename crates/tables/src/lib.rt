@@ -1,0 +1,57 @@
+// For every set of columns, whether it is safe and which needs it meets: what the diagram and the planner read.
+use job::Job;
+
+mod words; // words.rt: tables of a bit for each set
+mod gained; // gained.rt: tables of a byte for each set
+
+ghost use mathlib.Core.Path.{_≡_};
+ghost use mathlib.Core.Option.{some};
+ghost use Prim.Native.Nat.{_*_, _≤_};
+ghost use lib.ListN.{replicate};
+ghost use Rattle.rules.specs.Jobs.{Job as JobOf};
+ghost use Rattle.rules.specs.Numbers.{jobOf};
+ghost use Rattle.rules.specs.Conditions.{condition, gain};
+ghost use Rattle.job.specs.Records.{numbersIn, Sound};
+ghost use Rattle.tables.specs.Tables.{blocks, Tells, Lists, Stays};
+
+// The condition of a chosen need at every set of the job's columns. The index equal to the number of needs stands for "no need".
+pub fn conditions(job: Job, chosen: usize, table: &mut [u64; 1024])
+    requires { ⌜ Sound job × (chosen ≤ job .needs) ⌝ }
+    ensures told { λ _. ⌜ ((j : JobOf) → jobOf (numbersIn job) ≡ some j → Tells (blocks (job .columns)) (condition j chosen) (now (table .exit))) ⌝ }
+    ensures stays { λ _. ⌜ Stays (blocks (job .columns)) (now (table .entry)) (now (table .exit)) ⌝ }
+{
+    let count = words::block_count(job.columns);
+    let marked = job.marked;
+    let marks = job.marks;
+    if chosen < job.needs {
+        // The proof learns how many places there are where a reference to the array becomes a slice.
+        let all: &[u16; 512] = &marks;
+        let places: &[u16] = all;
+        let rows = job::rows::rows_of(&places[..marked]);
+        let row = rows[chosen];
+        words::meet(&row, count, table);
+    } else {
+        words::hold(count, table);
+    }
+    let sets = job.sets;
+    let forbidden = job.forbidden;
+    let all: &[u16; 32] = &forbidden;
+    let places: &[u16] = all;
+    words::forbid_all(&places[..sets], count, table);
+}
+
+// Which needs every set of the job's columns meets, where it is safe: need k is bit k. The table has been 0.
+pub fn gains(job: Job, table: &mut [u8; 65536])
+    requires { ⌜ Sound job × (now table ≡ replicate 65536 0) ⌝ }
+    ensures told { λ _. ⌜ ((j : JobOf) → jobOf (numbersIn job) ≡ some j → Lists (64 * blocks (job .columns)) (gain j) (now (table .exit))) ⌝ }
+    ensures stays { λ _. ⌜ Stays (64 * blocks (job .columns)) (now (table .entry)) (now (table .exit)) ⌝ }
+{
+    let count = words::block_count(job.columns);
+    let mut met = [0u64; 1024];
+    let mut k = 0;
+    while k < job.needs {
+        conditions(job, k, &mut met);
+        gained::add(&met, k, count, table);
+        k += 1;
+    }
+}
