@@ -1,8 +1,8 @@
 -- The job as a value. It holds the numbers of a fit job, and every place without a number is 0.
 use mathlib.Core.Path.{_≡_}
 use mathlib.Core.Bool.{false, true, cond}
-use mathlib.Core.List.{List, []}
-use Prim.Native.Nat.{ℕ, _≤_}
+use mathlib.Core.List.{[]}
+use Prim.Native.Nat.{_≤_}
 use lib.ListN.{length, take, replicate}
 use Rattle.rules.specs.Lists.{written}
 use Rattle.rules.specs.Marks.{rows}

@@ -2,6 +2,7 @@
 use crate::rows;
 use crate::rows::AND_MARK;
 use crate::rows::END_MARK;
+use crate::rows::MOST_NEEDS;
 use crate::rows::OR_MARK;
 use columns::ColumnSet;
 ghost use mathlib.Core.Path.{_≡_};
@@ -11,6 +12,9 @@ ghost use Rattle.rules.specs.Lists.{anyOf, firstWhere};
 ghost use Rattle.rules.specs.Marks.{andMark};
 ghost use Rattle.rules.specs.Numbers.{setUnfit, markUnfit, needUnfit};
 ghost use Rattle.job.specs.Findings.{placeOf, countOf, needCount};
+
+// "Column marks in a need 1 to 32."
+const MOST_COLUMN_MARKS: usize = 32;
 
 // Where the first is that was looked for.
 pub enum Found {
@@ -81,7 +85,7 @@ fn need_fit(columns: u16, need: &[u16]) -> bool
         named += column_marks(mark);
         i += 1;
     }
-    operands == 1 && named <= 32
+    operands == 1 && named <= MOST_COLUMN_MARKS
 }
 
 // How many needs the marks are, if they are whole needs, each fit and closed by an end mark, and not over 8.
@@ -92,7 +96,7 @@ pub fn needs_fit(columns: u16, marks: &[u16]) -> Counted
     let mut from = 0;
     while from < marks.len() {
         let to = rows::end_of_need(marks, from);
-        if to == marks.len() || count == 8 || !need_fit(columns, &marks[from..to]) {
+        if to == marks.len() || count == MOST_NEEDS || !need_fit(columns, &marks[from..to]) {
             return Counted::Unfit;
         }
         from = to + 1;

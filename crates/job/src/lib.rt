@@ -1,4 +1,5 @@
 // A job by value, from its numbers. `load` says whether they are fit.
+use columns::ColumnSet;
 use fitness::Counted;
 use fitness::Found;
 
@@ -8,19 +9,23 @@ pub mod rows; // rows.rt: the needs laid out for evaluation
 
 ghost use mathlib.Core.Path.{_≡_};
 ghost use mathlib.Core.Bool.{true, false};
-ghost use Prim.Native.Nat.{_≤_};
 ghost use lib.ListN.{length};
 ghost use Rattle.rules.specs.Marks.{rows as rowsIn};
 ghost use Rattle.job.specs.Records.{noJob, jobWith, loaded};
 
-// The numbers of a fit job. Places from the counts on are 0.
+// "Forbidden sets 0 to 32." Eight needs of 63 marks and an end mark each are 512.
+const MOST_FORBIDDEN: usize = 32;
+
+const MOST_MARKS: usize = 512;
+
+// The numbers of a fit job. Places without a number are 0.
 pub struct Job {
     pub columns: u16,
-    pub sets: usize,
-    pub forbidden: [u16; 32],
-    pub needs: usize,
-    pub marked: usize,
-    pub marks: [u16; 512],
+    pub sets: usize, // how many forbidden sets there are
+    pub forbidden: [u16; MOST_FORBIDDEN],
+    pub needs: usize, // how many needs the marks are
+    pub marked: usize, // how many marks there are
+    pub marks: [u16; MOST_MARKS],
 }
 
 // A job, if the numbers are fit; if not, one with no columns, sets or marks.
@@ -33,7 +38,10 @@ pub struct Loaded {
 pub fn load(columns: usize, forbidden: &[u16], marks: &[u16]) -> Loaded
     ensures { λ r. ⌜ r ≡ loaded (record { columns = columns; forbidden = now (forbidden .entry); marks = now (marks .entry) }) ⌝ }
 {
-    if columns == 0 || 16 < columns || 32 < forbidden.len() {
+    if columns == 0
+        || (ColumnSet::MOST_COLUMNS as usize) < columns
+        || MOST_FORBIDDEN < forbidden.len()
+    {
         return unfit();
     }
     let n = columns as u16;
@@ -57,10 +65,10 @@ fn unfit() -> Loaded
         job: Job {
             columns: 0,
             sets: 0,
-            forbidden: [0u16; 32],
+            forbidden: [0u16; MOST_FORBIDDEN],
             needs: 0,
             marked: 0,
-            marks: [0u16; 512],
+            marks: [0u16; MOST_MARKS],
         },
     }
 }
@@ -68,11 +76,12 @@ fn unfit() -> Loaded
 // What fit numbers give.
 fn fit(columns: u16, forbidden: &[u16], needs: usize, marks: &[u16]) -> Loaded
     requires { ⌜ needs ≡ length (rowsIn (now marks)) ⌝ }
-    ensures { λ r. ⌜ (r .fit ≡ true) × (r .job ≡ jobWith (record { columns = columns; forbidden = now (forbidden .entry); marks = now (marks .entry) })) ⌝ }
+    ensures fits { λ r. ⌜ r .fit ≡ true ⌝ }
+    ensures holds { λ r. ⌜ r .job ≡ jobWith (record { columns = columns; forbidden = now (forbidden .entry); marks = now (marks .entry) }) ⌝ }
 {
-    let mut sets = [0u16; 32];
+    let mut sets = [0u16; MOST_FORBIDDEN];
     copies::write(&mut sets, forbidden);
-    let mut all = [0u16; 512];
+    let mut all = [0u16; MOST_MARKS];
     copies::write(&mut all, marks);
     Loaded {
         fit: true,

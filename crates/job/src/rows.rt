@@ -6,6 +6,11 @@ ghost use lib.ListN.{length, drop};
 ghost use Rattle.rules.specs.Marks.{rows, beforeEnd};
 ghost use Rattle.job.specs.Rows.{rowOf, rowsOf};
 
+// "Needs 0 to 8", and 32 column marks in a need with the joins between them are 63.
+pub const MOST_NEEDS: usize = 8;
+
+pub const MOST_MARKS: usize = 63;
+
 // A mark below these is a column.
 pub const AND_MARK: u16 = 16;
 
@@ -28,22 +33,22 @@ pub fn end_of_need(marks: &[u16], from: usize) -> usize
 }
 
 // A need's marks in a row. A place without a mark holds the end mark.
-fn row_of(need: &[u16]) -> [u16; 63]
+fn row_of(need: &[u16]) -> [u16; MOST_MARKS]
     ensures { λ r. ⌜ r ≡ rowOf (now (need .entry)) ⌝ }
 {
-    let mut row = [END_MARK; 63];
+    let mut row = [END_MARK; MOST_MARKS];
     copies::write(&mut row, need);
     row
 }
 
 // The needs that the marks stand for, each in its row. Of any marks, as much as there is room for.
-pub fn rows_of(marks: &[u16]) -> [[u16; 63]; 8]
+pub fn rows_of(marks: &[u16]) -> [[u16; MOST_MARKS]; MOST_NEEDS]
     ensures { λ r. ⌜ r ≡ rowsOf (rows (now (marks .entry))) ⌝ }
 {
-    let mut rows = [[END_MARK; 63]; 8];
+    let mut rows = [[END_MARK; MOST_MARKS]; MOST_NEEDS];
     let mut from = 0;
     let mut k = 0;
-    while k < 8 && from < marks.len() {
+    while k < MOST_NEEDS && from < marks.len() {
         let to = end_of_need(marks, from);
         rows[k] = row_of(&marks[from..to]);
         from = to + 1;

@@ -8,9 +8,9 @@ use lib.ListN.{length}
 use Rattle.rules.specs.Lists.{firstWhere}
 use Rattle.rules.specs.Marks.{rows}
 use Rattle.rules.specs.Jobs.{Job}
-use Rattle.rules.specs.Numbers.{Numbers, unfit, setUnfit, jobOf}
-use Rattle.rules.specs.Splits.{proper, met}
-use Rattle.rules.specs.Verdicts.{unfitJob, improper, forbids, shares, unmet, right, Places, firstForbidden, firstSharing, judged}
+use Rattle.rules.specs.Numbers.{Numbers, setUnfit, jobOf}
+use Rattle.rules.specs.Splits.{proper}
+use Rattle.rules.specs.Verdicts.{unfitJob, improper, forbids, shares, unmet, right, Places, firstImproper, firstForbidden, firstSharing, firstUnmet, judged}
 use Rattle.rules.proofs.Searches.{first-same}
 use Rattle.rules.proofs.Numbers.{unfit-none, fit-job, job-fit}
 use Rattle.rules.proofs.Verdicts.{judged-job, judged-unfit}
@@ -58,7 +58,7 @@ pub same-columns : {n m : ℕ} {o : Option ℕ} (split : List ℕ) → m ≡ n �
 same-columns split e found = rw (← e) found
 
 module _ (q : Numbers) (split : List ℕ) (job : Job) (known : jobOf q ≡ some job) where
-  as-improper : firstWhere (λ s. not (proper job s)) split ≡ firstWhere (setUnfit (q .columns)) split
+  as-improper : firstImproper job split ≡ firstWhere (setUnfit (q .columns)) split
   as-improper =
       sym (first-same (setUnfit (q .columns)) 0 (λ s. not (proper job s)) (λ s. unfit-improper job (q .columns) s (job-fit q job known .columns)) split)
 
@@ -77,8 +77,8 @@ module _ (q : Numbers) (split : List ℕ) (job : Job) (known : jobOf q ≡ some 
       answer-shares p e = judged-job q job split known ∙ says-shares job split (as-improper ∙ proper) (as-forbidden ∙ safe) p e
 
       module _ (unlinked : firstSharing job split ≡ none) where
-        pub answer-unmet : (k : ℕ) → firstWhere (λ v. not (met split v)) (job .needs) ≡ some k → judged q split ≡ unmet k
+        pub answer-unmet : (k : ℕ) → firstUnmet (job .needs) split ≡ some k → judged q split ≡ unmet k
         answer-unmet k e = judged-job q job split known ∙ says-unmet job split (as-improper ∙ proper) (as-forbidden ∙ safe) unlinked k e
 
-        pub answer-right : firstWhere (λ v. not (met split v)) (job .needs) ≡ none → judged q split ≡ right
+        pub answer-right : firstUnmet (job .needs) split ≡ none → judged q split ≡ right
         answer-right e = judged-job q job split known ∙ says-right job split (as-improper ∙ proper) (as-forbidden ∙ safe) unlinked e

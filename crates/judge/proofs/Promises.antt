@@ -1,16 +1,17 @@
--- What the judge's promise says: one answer for each input, right exactly if the split is correct, and demand 3. Assumes nothing.
+-- What the judge's promise says: one answer for each input, when it is a refusal, when it is right, and demand 3. Assumes nothing.
 use mathlib.Core.Path.{_≡_, refl, sym, ap, _∙_}
-use mathlib.Core.Bool.{Bool, true, false, true≢false}
+use mathlib.Core.Bool.{Bool, true, false, cond, true≢false}
 use mathlib.Core.List.{List}
 use mathlib.Core.Option.{Option, none, some}
 use Prim.Native.Nat.{ℕ}
 use Rattle.rules.specs.Jobs.{Job}
-use Rattle.rules.specs.Numbers.{Numbers, jobOf}
+use Rattle.rules.specs.Numbers.{Numbers, unfit, jobOf}
 use Rattle.rules.specs.Splits.{Correct}
-use Rattle.rules.specs.Verdicts.{Verdict as Said, unfitJob, improper, forbids, shares, unmet, right, verdict, judged}
+use Rattle.rules.specs.Verdicts.{Verdict as Said, unfitJob, improper, forbids, shares, unmet, right, refusalOf, verdict, judged}
+use Rattle.rules.specs.Refusals.{numbersUnfit}
 use Rattle.rules.specs.Demands.{AsksNoMore}
 use Rattle.rules.proofs.Splits.{correct-means, means-correct}
-use Rattle.rules.proofs.Verdicts.{right-correct, correct-right, judged-job, judged-unfit}
+use Rattle.rules.proofs.Verdicts.{right-correct, correct-right, judged-job, judged-unfit, judged-refusal}
 use Rattle.rules.proofs.Demands.{less-judged}
 use Rattle.judge.specs.Answers.{verdictOf}
 use Rattle.judge.specs.Promises.{Judges}
@@ -39,18 +40,27 @@ answer-back Right = refl
 pub one-answer : (q : Numbers) (split : List ℕ) (r s : Verdict) → Judges q split r → Judges q split s → r ≡ s
 one-answer q split r s a b = sym (answer-back r) ∙ ap answerFor (a ∙ sym b) ∙ answer-back s
 
+-- ---- refusal 7 exactly if the numbers are unfit, and no other refusal
+
+pub refuses-unfit : (q : Numbers) (split : List ℕ) (r : Verdict) → Judges q split r → refusalOf (verdictOf r) ≡ cond (unfit q) (some numbersUnfit) none
+refuses-unfit q split r a = ap refusalOf a ∙ judged-refusal q split
+
 -- ---- right exactly if the list is a correct split of the job
 
-right-verdict : (q : Numbers) (job : Job) (split : List ℕ) (r : Verdict) → jobOf q ≡ some job → Judges q split r → r ≡ Right → verdict job split ≡ right
+right-verdict : (q : Numbers) (job : Job) (split : List ℕ) (r : Verdict) → jobOf q ≡ some job → Judges q split r
+    → r ≡ Right → verdict job split ≡ right
 right-verdict q job split r j a e = sym (judged-job q job split j) ∙ sym a ∙ ap verdictOf e
 
-verdict-right : (q : Numbers) (job : Job) (split : List ℕ) (r : Verdict) → jobOf q ≡ some job → Judges q split r → verdict job split ≡ right → r ≡ Right
+verdict-right : (q : Numbers) (job : Job) (split : List ℕ) (r : Verdict) → jobOf q ≡ some job → Judges q split r
+    → verdict job split ≡ right → r ≡ Right
 verdict-right q job split r j a e = one-answer q split r Right a (sym (judged-job q job split j ∙ e))
 
-pub right-if-correct : (q : Numbers) (job : Job) (split : List ℕ) (r : Verdict) → jobOf q ≡ some job → Judges q split r → Correct job split → r ≡ Right
+pub right-if-correct : (q : Numbers) (job : Job) (split : List ℕ) (r : Verdict) → jobOf q ≡ some job → Judges q split r
+    → Correct job split → r ≡ Right
 right-if-correct q job split r j a c = verdict-right q job split r j a (correct-right job split (means-correct job split c))
 
-pub correct-if-right : (q : Numbers) (split : List ℕ) (r : Verdict) → Judges q split r → r ≡ Right → (job : Job) × (jobOf q ≡ some job) × Correct job split
+pub correct-if-right : (q : Numbers) (split : List ℕ) (r : Verdict) → Judges q split r
+    → r ≡ Right → (job : Job) × (jobOf q ≡ some job) × Correct job split
 correct-if-right q split r a e = go (jobOf q) refl
   where
     go : (o : Option Job) → jobOf q ≡ o → (job : Job) × (jobOf q ≡ some job) × Correct job split
@@ -62,7 +72,7 @@ correct-if-right q split r a e = go (jobOf q) refl
 
 -- ---- demand 3: what is judged right for a job is judged right for one that asks no more
 
-pub less-right : (p q : Numbers) (first second : Job) (split : List ℕ) (r s : Verdict) → jobOf p ≡ some first → jobOf q ≡ some second → AsksNoMore first second
-    → Judges p split r → Judges q split s → r ≡ Right → s ≡ Right
+pub less-right : (p q : Numbers) (first second : Job) (split : List ℕ) (r s : Verdict) → jobOf p ≡ some first → jobOf q ≡ some second
+    → AsksNoMore first second → Judges p split r → Judges q split s → r ≡ Right → s ≡ Right
 less-right p q first second split r s i j less a b e =
     verdict-right q second split s j b (less-judged first second less split (right-verdict p first split r i a e))

@@ -1,32 +1,26 @@
 -- The lanes of a column: of one below 6 a lane's own bits, the same in every block, and of a later one a bit of the block. Assumes nothing.
 use mathlib.Core.Path.{_≡_, refl, sym, ap, _∙_}
-use mathlib.Core.Bool.{Bool, true, false}
+use mathlib.Core.Bool.{Bool, true, false, _&&_, and-true}
 use mathlib.Core.List.{List, [], _∷_}
 use Prim.Native.Nat.{ℕ, _+_, _-_, _*_, _/_, _%_, _^_, _≤_, _<_}
 use native.Mathlib.Omega.{arith}
-use lib.Dec.{eqb}
+use lib.Dec.{eqb, ltb}
 use lib.ListN.{getD}
-use lib.Pow.{shr-shr, field, mod-mod-pow}
+use lib.Pow.{shr-shr}
 use borrow.Author.Tests.{eqb-true, lt-ltb}
 use Rattle.rules.specs.Lists.{every, upFrom}
 use Rattle.rules.specs.Sets.{has}
 use Rattle.rules.proofs.Lists.{every-in, upFrom-in}
-use Rattle.rules.proofs.SetBits.{has-full, has-empty}
+use Rattle.rules.proofs.SetBits.{has-full, has-empty, has-low}
 use Rattle.needs.specs.Lanes.{Lanes}
 
 -- ---- the number of a set: its block and its lane
 
--- a column is a bit of the set's number below any power past that bit
-has-lower : (i j s : ℕ) → has i (s % 2 ^ (j + (1 + i))) ≡ has i s
-has-lower i j s =
-    ap (λ (d : ℕ). eqb d 1)
-    (sym (field (s % 2 ^ (j + (1 + i))) 1 i) ∙ ap (λ (n : ℕ). n / 2 ^ i) (mod-mod-pow s j (1 + i)) ∙ field s 1 i)
-
 pub has-in-lane : (block lane i : ℕ) → lane < 64 → i < 6 → has i (64 * block + lane) ≡ has i lane
 has-in-lane block lane i l h =
-    let all : 5 - i + (1 + i) ≡ 6 = omega arith in
     let own : (64 * block + lane) % 2 ^ 6 ≡ lane = omega arith in
-    sym (has-lower i (5 - i) (64 * block + lane)) ∙ rw (all, own)
+    let low : (has i (64 * block + lane) && ltb i 6) ≡ has i lane = sym (has-low 6 (64 * block + lane) i) ∙ ap (has i) own in
+    sym (and-true (has i (64 * block + lane))) ∙ rw (lt-ltb i 6 h) at low
 
 pub has-in-block : (block lane i : ℕ) → lane < 64 → 6 ≤ i → has i (64 * block + lane) ≡ has (i - 6) block
 has-in-block block lane i l h =

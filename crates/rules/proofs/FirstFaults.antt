@@ -1,9 +1,9 @@
 -- What searches for the faults of a split find is what the judge's answer is made of. Assumes nothing.
-use mathlib.Core.Path.{_≡_, refl, sym, ap, _∙_}
+use mathlib.Core.Path.{_≡_, refl, ap}
 use mathlib.Core.Bool.{Bool, true, false, not, _||_, _&&_}
 use mathlib.Core.List.{List, [], _∷_}
-use mathlib.Core.Option.{Option, none, some, Option·map, orElse}
-use Prim.Native.Nat.{ℕ, zero, suc, _<_, _+_}
+use mathlib.Core.Option.{none, some, orElse}
+use Prim.Native.Nat.{ℕ, zero, suc, _<_}
 use native.Mathlib.Omega.{arith}
 use lib.Dec.{eqb}
 use lib.ListN.{length, getD}
@@ -14,7 +14,7 @@ use Rattle.rules.specs.Jobs.{Job, unlinked}
 use Rattle.rules.specs.Numbers.{setUnfit}
 use Rattle.rules.specs.Splits.{proper, met}
 use Rattle.rules.specs.Verdicts.{improper, forbids, shares, unmet, right}
-use Rattle.rules.specs.Verdicts.{Places, firstForbidden, firstSharing, firstFault, verdict}
+use Rattle.rules.specs.Verdicts.{Places, firstImproper, firstForbidden, firstSharing, firstUnmet, firstFault, verdict}
 use Rattle.rules.proofs.Lists.{any-in, getD-in, first-none}
 use Rattle.rules.proofs.Searches.{NoneBefore, first-found, nothing-found}
 
@@ -95,11 +95,11 @@ met-nothing v split before = first-none (meets v) split (nothing-found (meets v)
 -- ---- the first fault of all
 
 module _ (job : Job) (split : List ℕ) where
-  pub says-improper : (i : ℕ) → firstWhere (λ s. not (proper job s)) split ≡ some i → verdict job split ≡ improper i
+  pub says-improper : (i : ℕ) → firstImproper job split ≡ some i → verdict job split ≡ improper i
   unfolding verdict firstFault orElse
   says-improper i e = rw e
 
-  module _ (properAll : firstWhere (λ s. not (proper job s)) split ≡ none) where
+  module _ (properAll : firstImproper job split ≡ none) where
     pub says-forbids : (p : Places) → firstForbidden (job .forbidden) split ≡ some p → verdict job split ≡ forbids (p .i) (p .j)
     unfolding verdict firstFault orElse
     says-forbids p e = rw (properAll, e)
@@ -110,11 +110,11 @@ module _ (job : Job) (split : List ℕ) where
       says-shares p e = rw (properAll, safeAll, e)
 
       module _ (unlinkedAll : firstSharing job split ≡ none) where
-        pub says-unmet : (k : ℕ) → firstWhere (λ v. not (met split v)) (job .needs) ≡ some k → verdict job split ≡ unmet k
+        pub says-unmet : (k : ℕ) → firstUnmet (job .needs) split ≡ some k → verdict job split ≡ unmet k
         unfolding verdict firstFault orElse
         says-unmet k e = rw (properAll, safeAll, unlinkedAll, e)
 
-        pub says-right : firstWhere (λ v. not (met split v)) (job .needs) ≡ none → verdict job split ≡ right
+        pub says-right : firstUnmet (job .needs) split ≡ none → verdict job split ≡ right
         unfolding verdict firstFault orElse
         says-right e = rw (properAll, safeAll, unlinkedAll, e)
 

@@ -9,6 +9,7 @@ pub mod SetSizes
 pub mod Needs
 pub mod Numbers
 pub mod Marks
+pub mod Conditions
 pub mod Splits
 pub mod Orders
 pub mod Rising

@@ -1,8 +1,8 @@
 -- Laws of the plain words about lists. Assumes nothing.
 use mathlib.Core.Path.{_≡_, refl, sym, ap, _∙_}
 use mathlib.Core.Logic.{_⊎_, inl, inr}
-use mathlib.Core.Bool.{Bool, true, false, not, cond, _&&_, _||_, true≢false, false≢true, and-eq-true-iff}
-use mathlib.Core.List.{List, [], _∷_, List·Memᴰ, List·Memᴰ·head, List·Memᴰ·tail}
+use mathlib.Core.Bool.{Bool, true, false, not, cond, _&&_, _||_, true≢false, false≢true, and-eq-true-iff, or-false, or-assoc}
+use mathlib.Core.List.{List, [], _∷_, _++_, List·Memᴰ, List·Memᴰ·head, List·Memᴰ·tail}
 use mathlib.Core.Option.{Option, none, some, Option·map}
 use Prim.Native.Nat.{ℕ, zero, suc, _+_, _≤_, _<_}
 use native.Mathlib.Decide.{ℕ-discrete}
@@ -92,6 +92,11 @@ module _ {A : Type 0} where
       or-none (p x) (anyOf p xs) (f x (List·Memᴰ·head refl)) (not-any-all p xs (λ y m. f y (List·Memᴰ·tail m)))
 
   -- ---- places and members
+
+  pub any-append : (p : A → Bool) (xs : List A) (x : A) → anyOf p (xs ++ (x ∷ [])) ≡ (anyOf p xs || p x)
+  unfolding anyOf
+  any-append p [] x = or-false (p x)
+  any-append p (y ∷ xs) x = ap (λ (b : Bool). p y || b) (any-append p xs x) ∙ sym (or-assoc (p y) (anyOf p xs) (p x))
 
   pub getD-in : (xs : List A) (i : ℕ) (d : A) → i < length xs → List·Memᴰ (getD xs i d) xs
   getD-in [] i d h = absurd (omega arith)

@@ -1,7 +1,8 @@
 -- Laws of a single column of a set, a bit of the number, and of what columns are worth together. Assumes nothing.
 use mathlib.Core.Path.{_≡_, refl, sym, ap, _∙_}
-use mathlib.Core.Bool.{Bool, true, false, cond, _&&_, _||_, true≢false, false≢true}
-use Prim.Native.Nat.{ℕ, zero, suc, _+_, _*_, _/_, _%_, _^_, _≤_, _<_, min, max, zero-le, suc-le-suc}
+use mathlib.Core.Bool.{Bool, true, false, not, cond, _&&_, _||_, true≢false, false≢true}
+use mathlib.Core.List.{List, [], _∷_, _++_}
+use Prim.Native.Nat.{ℕ, zero, suc, _+_, _-_, _*_, _/_, _%_, _^_, _≤_, _<_, min, max, zero-le, suc-le-suc}
 use native.Mathlib.Nat.{pow-suc, div-one, div-eq-of-lt, mod-lt, lt-of-lt-of-le, le-of-suc-le-suc, zero-lt-suc}
 use native.Mathlib.Numerals.{one-add}
 use native.Mathlib.Decide.{decLt}
@@ -9,7 +10,7 @@ use native.Mathlib.Omega.{arith}
 use lib.Dec.{eqb, ltb, leb, leb·suc-suc}
 use lib.Arith.{lt-one}
 use lib.Pow.{pow-pos, pow-mono, shr-shr, ones-lt}
-use lib.Bits.{bitAnd, bitOr, and-step, and-shr, or-step, or-shr}
+use lib.Bits.{bitAnd, bitOr, and-step, and-shr, and-mask, or-step, or-shr}
 use borrow.Author.Tests.{eq-eqb, ne-eqb, ltb-true, lt-ltb, le-ltb, leb-true, le-leb}
 use Rattle.rules.specs.Lists.{upFrom}
 use Rattle.rules.specs.Sets.{has, full, worth, within}
@@ -103,6 +104,23 @@ has-full (suc n) (suc i) =
     let half : full (suc n) / 2 ≡ full n = omega (arith, full-first n) in
     has-later i (full (suc n)) ∙ ap (has i) half ∙ has-full n i ∙ sym (leb·suc-suc (suc i) n)
 
+-- the first n columns of a set
+pub has-low : (n s i : ℕ) → has i (s % 2 ^ n) ≡ (has i s && ltb i n)
+has-low n s i = ap (has i) (sym (and-mask s n)) ∙ has-and s (full n) i ∙ ap (λ (b : Bool). has i s && b) (has-full n i)
+
+other-digit : (d e : ℕ) → d + e ≡ 1 → eqb d 1 ≡ not (eqb e 1)
+other-digit d zero h = let one : d ≡ 1 = omega arith in rw one
+other-digit d (suc e) h = let none-left : d ≡ 0 = omega arith in let last : suc e ≡ 1 = omega arith in rw (none-left, last)
+
+-- the other columns of n
+pub has-others : (n s i : ℕ) → s < 2 ^ n → i < n → has i (full n - s) ≡ not (has i s)
+has-others zero s i b l = absurd (omega arith)
+has-others (suc n) s zero b l = other-digit ((full (suc n) - s) / 2 ^ 0 % 2) (s / 2 ^ 0 % 2) (omega (arith, full-first n, pow-suc 2 n))
+has-others (suc n) s (suc i) b l =
+    let half : (full (suc n) - s) / 2 ≡ full n - s / 2 = omega (arith, full-first n, pow-suc 2 n) in
+    has-later i (full (suc n) - s) ∙ ap (has i) half ∙ has-others n (s / 2) i (omega (arith, pow-suc 2 n)) (le-of-suc-le-suc l)
+    ∙ ap not (sym (has-later i s))
+
 -- a set of at most 16 columns lies within n of them if its number is none past the full set's
 pub within-full : (n s : ℕ) → s < 2 ^ 16 → within n s ≡ leb s (full (min n 16))
 within-full n s b =
@@ -127,6 +145,11 @@ worth-later p i (suc k) = rw (worth-later p (suc i) k) (go (p (suc i)) (worth (�
     go : (b : Bool) (x : ℕ) → cond b (2 ^ suc i) 0 + x * 2 ≡ (cond b (2 ^ i) 0 + x) * 2
     go true x = omega (arith, pow-suc 2 i)
     go false x = omega arith
+
+pub worth-append : (p : ℕ → Bool) (xs : List ℕ) (x : ℕ) → worth p (xs ++ (x ∷ [])) ≡ worth p xs + cond (p x) (2 ^ x) 0
+unfolding worth
+worth-append p [] x = omega arith
+worth-append p (y ∷ xs) x = omega (arith, worth-append p xs x)
 
 worth-first : (p : ℕ → Bool) (k : ℕ) → worth p (upFrom 0 (suc k)) ≡ worth (λ j. p (suc j)) (upFrom 0 k) * 2 + cond (p 0) 1 0
 unfolding worth upFrom

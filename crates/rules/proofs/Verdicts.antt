@@ -1,6 +1,6 @@
 -- The judge says right exactly if the split is correct. Assumes nothing.
 use mathlib.Core.Path.{_≡_, refl, sym, ap, _∙_}
-use mathlib.Core.Bool.{Bool, true, false, not, true≢false}
+use mathlib.Core.Bool.{Bool, true, false, not, cond, true≢false}
 use mathlib.Core.List.{List, [], _∷_}
 use mathlib.Core.Option.{Option, none, some, Option·map, Option·getD, orElse, Option·some-injective}
 use Prim.Native.Nat.{ℕ}
@@ -8,11 +8,13 @@ use borrow.Author.Tests.{not-true, not-false}
 use Rattle.rules.specs.Lists.{every, firstWhere}
 use Rattle.rules.specs.Sets.{contains}
 use Rattle.rules.specs.Jobs.{Job, safe, unlinked}
-use Rattle.rules.specs.Numbers.{Numbers, jobOf}
+use Rattle.rules.specs.Numbers.{Numbers, unfit, jobOf}
 use Rattle.rules.specs.Splits.{proper, allUnlinked, met, correct}
-use Rattle.rules.specs.Verdicts.{Verdict, unfitJob, improper, forbids, shares, unmet, right}
-use Rattle.rules.specs.Verdicts.{Places, firstForbidden, firstSharing, firstFault, verdict, judged}
+use Rattle.rules.specs.Verdicts.{Verdict, unfitJob, improper, forbids, shares, unmet, right, refusalOf}
+use Rattle.rules.specs.Refusals.{numbersUnfit}
+use Rattle.rules.specs.Verdicts.{Places, firstImproper, firstForbidden, firstSharing, firstUnmet, firstFault, verdict, judged}
 use Rattle.rules.proofs.Lists.{and-parts, and-both, every-in, every-all, not-any-in, not-any-all, first-none, none-first}
+use Rattle.rules.proofs.Numbers.{unfit-none, fit-job}
 use Rattle.rules.proofs.Splits.{correct-parts, parts-correct}
 
 -- ---- of several findings
@@ -124,10 +126,10 @@ module _ (job : Job) where
   never-right : (split : List ℕ) → firstFault job split ≡ some right → ⊥
   unfolding firstFault
   never-right split =
-      wrong-else improper (λ i. refl) (firstWhere (λ s. not (proper job s)) split) _
+      wrong-else improper (λ i. refl) (firstImproper job split) _
       (wrong-else (λ (p : Places). forbids (p .i) (p .j)) (λ p. refl) (firstForbidden (job .forbidden) split) _
       (wrong-else (λ (p : Places). shares (p .i) (p .j)) (λ p. refl) (firstSharing job split) _
-      (wrong-map unmet (λ k. refl) (firstWhere (λ v. not (met split v)) (job .needs)))))
+      (wrong-map unmet (λ k. refl) (firstUnmet (job .needs) split))))
 
   pub right-correct : (split : List ℕ) → verdict job split ≡ right → correct job split ≡ true
   unfolding verdict
@@ -141,6 +143,28 @@ module _ (job : Job) where
   unfolding verdict
   correct-right split e = rw (correct-faultless split e)
 
+-- ---- no answer for a job is a refusal
+
+module _ {A : Type 0} (fault : A → Verdict) (given : (a : A) → refusalOf (fault a) ≡ none) where
+  given-else : (o : Option A) (rest : Option Verdict) → refusalOf (Option·getD rest right) ≡ none
+      → refusalOf (Option·getD (orElse (Option·map fault o) rest) right) ≡ none
+  unfolding orElse
+  given-else none rest e = e
+  given-else (some a) rest e = given a
+
+  given-last : (o : Option A) → refusalOf (Option·getD (Option·map fault o) right) ≡ none
+  unfolding refusalOf
+  given-last none = refl
+  given-last (some a) = given a
+
+pub verdict-given : (job : Job) (split : List ℕ) → refusalOf (verdict job split) ≡ none
+unfolding verdict firstFault refusalOf
+verdict-given job split =
+    given-else improper (λ i. refl) (firstImproper job split) _
+    (given-else (λ (p : Places). forbids (p .i) (p .j)) (λ p. refl) (firstForbidden (job .forbidden) split) _
+    (given-else (λ (p : Places). shares (p .i) (p .j)) (λ p. refl) (firstSharing job split) _
+    (given-last unmet (λ k. refl) (firstUnmet (job .needs) split))))
+
 -- ---- the answer for numbers
 
 pub judged-job : (q : Numbers) (job : Job) (split : List ℕ) → jobOf q ≡ some job → judged q split ≡ verdict job split
@@ -150,3 +174,12 @@ judged-job q job split e = rw e
 pub judged-unfit : (q : Numbers) (split : List ℕ) → jobOf q ≡ none → judged q split ≡ unfitJob
 unfolding judged
 judged-unfit q split e = rw e
+
+-- "An unfit job gives 7", and no other job gives a refusal
+pub judged-refusal : (q : Numbers) (split : List ℕ) → refusalOf (judged q split) ≡ cond (unfit q) (some numbersUnfit) none
+unfolding refusalOf
+judged-refusal q split = go (unfit q) refl
+  where
+    go : (b : Bool) → unfit q ≡ b → refusalOf (judged q split) ≡ cond b (some numbersUnfit) none
+    go true u = rw (judged-unfit q split (unfit-none q u))
+    go false u = let f = fit-job q u in rw (judged-job q (f .0) split (f .1 .same)) (verdict-given (f .0) split)

@@ -48,10 +48,3 @@ module _ {A : Type 0} where
   getD-written (x ∷ new) [] k d h l = absurd (omega arith)
   getD-written (x ∷ new) (y ∷ old) zero d h l = refl
   getD-written (x ∷ new) (y ∷ old) (suc k) d h l = getD-written new old k d (omega arith) (omega arith)
-
-  pub getD-unwritten : (new old : List A) (k : ℕ) (d : A) → length new ≤ k → getD (written new old) k d ≡ getD old k d
-  unfolding written
-  getD-unwritten [] old k d h = refl
-  getD-unwritten (x ∷ new) [] k d h = refl
-  getD-unwritten (x ∷ new) (y ∷ old) zero d h = absurd (omega arith)
-  getD-unwritten (x ∷ new) (y ∷ old) (suc k) d h = getD-unwritten new old k d (omega arith)

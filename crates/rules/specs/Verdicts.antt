@@ -7,6 +7,7 @@ use mathlib.Core.Option.{Option, none, some, Option·map, Option·getD, orElse}
 use Prim.Native.Nat.{ℕ, suc}
 use Rattle.rules.specs.Lists.{firstWhere}
 use Rattle.rules.specs.Sets.{contains}
+use Rattle.rules.specs.Needs.{Need}
 use Rattle.rules.specs.Jobs.{Job, unlinked}
 use Rattle.rules.specs.Numbers.{Numbers, jobOf}
 use Rattle.rules.specs.Splits.{proper, met}
@@ -48,6 +49,10 @@ pub record Places : Type 0 where
   pub i : ℕ
   pub j : ℕ
 
+-- the smallest i such that extract i is empty or names a missing column
+abbrev pub firstImproper : Job → List ℕ → Option ℕ
+firstImproper job split = firstWhere (λ s. not (proper job s)) split
+
 -- the smallest i, then j, such that extract i contains forbidden set j
 unfoldable pub firstForbidden : List ℕ → List ℕ → Option Places
 firstForbidden forbidden [] = none
@@ -62,13 +67,17 @@ firstSharing job (s ∷ split) =
     orElse (Option·map (λ j. record { i = 0; j = suc j }) (firstWhere (λ t. not (unlinked job s t)) split))
     (Option·map (λ p. record { i = suc (p .i); j = suc (p .j) }) (firstSharing job split))
 
+-- the smallest k such that need k is met by no extract
+abbrev pub firstUnmet : List Need → List ℕ → Option ℕ
+firstUnmet needs split = firstWhere (λ v. not (met split v)) needs
+
 -- the first fault in the order of the sentence
 unfoldable pub firstFault : Job → List ℕ → Option Verdict
 firstFault job split =
-    orElse (Option·map improper (firstWhere (λ s. not (proper job s)) split))
+    orElse (Option·map improper (firstImproper job split))
     (orElse (Option·map (λ p. forbids (p .i) (p .j)) (firstForbidden (job .forbidden) split))
     (orElse (Option·map (λ p. shares (p .i) (p .j)) (firstSharing job split))
-    (Option·map unmet (firstWhere (λ v. not (met split v)) (job .needs)))))
+    (Option·map unmet (firstUnmet (job .needs) split))))
 
 -- the answer for a job
 unfoldable pub verdict : Job → List ℕ → Verdict

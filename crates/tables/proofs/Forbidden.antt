@@ -1,32 +1,27 @@
 -- Taking the sets that contain a forbidden set out of a table: a forbidden set's columns below 6 name lanes, the others name blocks. Assumes nothing.
 use mathlib.Core.Path.{_≡_, refl, sym, ap, ap₂, _∙_}
-use mathlib.Core.Bool.{Bool, true, false, not, _&&_, _||_}
-use mathlib.Core.List.{List, [], _∷_, _++_}
-use Prim.Native.Nat.{ℕ, zero, suc, _+_, _-_, _*_, _/_, _%_, _^_, _<_}
-use native.Mathlib.Nat.{le-of-suc-le-suc, pow-suc}
+use mathlib.Core.Bool.{Bool, true, false, not, _&&_, _||_, and-true}
+use mathlib.Core.List.{List}
+use Prim.Native.Nat.{ℕ, _+_, _-_, _*_, _/_, _%_, _^_, _<_}
 use native.Mathlib.Numerals.{add-one}
 use native.Mathlib.Decide.{decLt}
 use native.Mathlib.Omega.{arith}
-use lib.Bits.{bitAnd, and-le-r, and-mask, and-block}
+use lib.Bits.{bitAnd, and-le-r, and-block}
 use lib.Dec.{eqb, ltb}
 use lib.ListN.{length, getD, take, set}
-use lib.Pow.{pow-pos, mod-pow-add}
+use lib.Pow.{mod-pow-add}
 use lib.Seq.{take-suc}
 use borrow.Author.Tests.{eqb-true, eq-eqb, eqb-false, lt-ltb, ltb-true}
 use Rattle.rules.specs.Lists.{anyOf}
 use Rattle.rules.specs.Sets.{has, full, contains}
-use Rattle.rules.proofs.Lists.{and-parts, and-both, same-test}
-use Rattle.rules.proofs.SetBits.{has-and, has-full, has-later}
+use Rattle.rules.proofs.Lists.{and-parts, and-both, same-test, any-append}
+use Rattle.rules.proofs.SetBits.{has-and, has-full, has-low, has-others}
 use Rattle.rules.proofs.Sets.{contains-bits, contains-column, contains-empty, has-contains}
 use Rattle.needs.specs.Lanes.{Lanes}
 use Rattle.tables.specs.Tables.{Tells, Narrows, Stays}
 use Rattle.tables.proofs.WordTables.{tells-next, tells-set, tells-same, stays-at}
 
 -- ---- the lanes of the columns below 6
-
--- the first columns of a set
-has-low : (n t i : ℕ) → has i (t % 2 ^ n) ≡ (has i t && ltb i n)
-has-low n t i = ap (has i) (sym (and-mask t n)) ∙ has-and t (full n) i ∙ ap (λ (b : Bool). has i t && b) (has-full n i)
 
 low-has : (n t i : ℕ) → i < n → has i t ≡ true → has i (t % 2 ^ n) ≡ true
 low-has n t i l h = has-low n t i ∙ and-both (has i t) (ltb i n) h (lt-ltb i n l)
@@ -105,23 +100,6 @@ contains-in-block block lane f l b =
     ∙ two-parts (bitAnd block high) (bitAnd lane low) high low (omega (arith, and-le-r lane low)) (omega arith)
     ∙ sym (ap₂ _&&_ (contains-bits block high (omega arith)) (contains-bits lane low (omega arith)))
 
--- ---- the other lanes of a word
-
-full-first : (n : ℕ) → full (suc n) ≡ full n * 2 + 1
-full-first n = omega (arith, pow-suc 2 n, pow-pos n)
-
-other-digit : (d e : ℕ) → d + e ≡ 1 → eqb d 1 ≡ not (eqb e 1)
-other-digit d zero h = let one : d ≡ 1 = omega arith in rw one
-other-digit d (suc e) h = let none-left : d ≡ 0 = omega arith in let last : suc e ≡ 1 = omega arith in rw (none-left, last)
-
-has-others : (n x i : ℕ) → x < 2 ^ n → i < n → has i (full n - x) ≡ not (has i x)
-has-others zero x i b l = absurd (omega arith)
-has-others (suc n) x zero b l = other-digit ((full (suc n) - x) / 2 ^ 0 % 2) (x / 2 ^ 0 % 2) (omega (arith, full-first n, pow-suc 2 n))
-has-others (suc n) x (suc i) b l =
-    let half : (full (suc n) - x) / 2 ≡ full n - x / 2 = omega (arith, full-first n, pow-suc 2 n) in
-    has-later i (full (suc n) - x) ∙ ap (has i) half ∙ has-others n (x / 2) i (omega (arith, pow-suc 2 n)) (le-of-suc-le-suc l)
-    ∙ ap not (sym (has-later i x))
-
 -- ---- a word without the sets that contain the forbidden one
 
 module _ (block f : ℕ) (b : f < 2 ^ 16) (test : ℕ → Bool) (word : ℕ) (told : Lanes block test word) where
@@ -167,30 +145,13 @@ module _ (low high count : ℕ) (old : List ℕ) (block : ℕ) (new : List ℕ) 
 
 -- ---- one forbidden set more
 
-any-append : (p : ℕ → Bool) (xs : List ℕ) (x : ℕ) → anyOf p (xs ++ (x ∷ [])) ≡ (anyOf p xs || p x)
-unfolding anyOf
-any-append p [] x = go (p x)
-  where
-    go : (a : Bool) → (a || false) ≡ a
-    go true = refl
-    go false = refl
-any-append p (y ∷ xs) x = ap (λ (b : Bool). p y || b) (any-append p xs x) ∙ go (p y)
-  where
-    go : (a : Bool) → (a || (anyOf p xs || p x)) ≡ ((a || anyOf p xs) || p x)
-    go true = refl
-    go false = refl
-
 -- the sets that contain one of the first so many forbidden sets are out of the table
 abbrev pub Spares : ℕ → List ℕ → ℕ → List ℕ → List ℕ → Type 0
 Spares count sets j old new = Narrows count (λ s. not (anyOf (contains s) (take j sets))) old new
 
 pub spares-none : (count : ℕ) (sets words : List ℕ) → Spares count sets 0 words words
 unfolding anyOf
-spares-none count sets words test told = tells-same count test (λ s. test s && true) words (λ s. go (test s)) told
-  where
-    go : (a : Bool) → a ≡ (a && true)
-    go true = refl
-    go false = refl
+spares-none count sets words test told = tells-same count test (λ s. test s && true) words (λ s. sym (and-true (test s))) told
 
 pub spares-more : (count : ℕ) (sets : List ℕ) (j : ℕ) (old new last : List ℕ) → j < length sets → Spares count sets j old new
     → Narrows count (λ s. not (contains s (getD sets j 0))) new last → Spares count sets (j + 1) old last

@@ -1,43 +1,26 @@
--- The conditions of a job: of a chosen need, of none, and how the worth of a set grows by a need. Assumes nothing.
-use mathlib.Core.Path.{_≡_, refl, sym, ap, _∙_}
-use mathlib.Core.Bool.{Bool, true, cond}
-use mathlib.Core.List.{List, [], _∷_, _++_}
-use Prim.Native.Nat.{ℕ, zero, suc, _+_, _^_, _≤_, _<_}
+-- A table of which needs each set meets, one need more. Assumes nothing.
+use mathlib.Core.Path.{_≡_, sym, ap, _∙_}
+use mathlib.Core.Bool.{cond}
+use mathlib.Core.List.{List}
+use Prim.Native.Nat.{ℕ, _+_, _^_, _≤_, _<_}
 use native.Mathlib.Nat.{zero-add}
 use native.Mathlib.Numerals.{add-one}
 use native.Mathlib.Omega.{arith}
 use lib.ListN.{length, getD, replicate, getD-replicate}
 use Rattle.rules.specs.Lists.{upFrom}
 use Rattle.rules.specs.Sets.{worth}
-use Rattle.rules.specs.Needs.{Need, column, meets}
+use Rattle.rules.specs.Needs.{meets}
 use Rattle.rules.specs.Jobs.{Job}
-use Rattle.rules.specs.Conditions.{meetsChosen, condition, gain}
+use Rattle.rules.specs.Conditions.{condition, gain}
 use Rattle.rules.proofs.Counting.{upFrom-last}
-use Rattle.rules.proofs.SetBits.{worth-within}
+use Rattle.rules.proofs.SetBits.{worth-append, worth-within}
 use Rattle.tables.specs.Tables.{Lists}
-
-pub chosen-need : (needs : List Need) (k s : ℕ) → k < length needs → meetsChosen needs k s ≡ meets (getD needs k (column 0)) s
-unfolding meetsChosen
-chosen-need [] k s h = absurd (omega arith)
-chosen-need (v ∷ needs) zero s h = refl
-chosen-need (v ∷ needs) (suc k) s h = chosen-need needs k s (omega arith)
-
-pub past-needs : (needs : List Need) (k s : ℕ) → length needs ≤ k → meetsChosen needs k s ≡ true
-unfolding meetsChosen
-past-needs [] k s h = refl
-past-needs (v ∷ needs) zero s h = absurd (omega arith)
-past-needs (v ∷ needs) (suc k) s h = past-needs needs k s (omega arith)
 
 -- ---- the worth of a set by the first needs
 
 -- which of the first so many needs a set meets, where it is safe
 abbrev pub gainOf : Job → ℕ → ℕ → ℕ
 gainOf job k s = worth (λ i. condition job i s) (upFrom 0 k)
-
-worth-append : (p : ℕ → Bool) (xs : List ℕ) (x : ℕ) → worth p (xs ++ (x ∷ [])) ≡ worth p xs + cond (p x) (2 ^ x) 0
-unfolding worth
-worth-append p [] x = omega arith
-worth-append p (y ∷ xs) x = omega (arith, worth-append p xs x)
 
 gain-more : (job : Job) (k s : ℕ) → gainOf job (k + 1) s ≡ gainOf job k s + cond (condition job k s) (2 ^ k) 0
 gain-more job k s = rw (add-one, upFrom-last 0 k, zero-add) (worth-append (λ i. condition job i s) (upFrom 0 k) k)

@@ -14,13 +14,13 @@ use Rattle.rules.specs.Numbers.{jobOf}
 use Rattle.rules.specs.Jobs.{Job, safe}
 use Rattle.rules.specs.Conditions.{meetsChosen, condition}
 use Rattle.rules.proofs.Numbers.{fit-job, job-fit}
+use Rattle.rules.proofs.Conditions.{chosen-need, past-needs}
 use Rattle.job.specs.declared.Job.{Job as JobValue}
 use Rattle.job.specs.Records.{numbersIn, Sound}
 use Rattle.job.specs.Rows.{rowsOf}
 use Rattle.job.proofs.RowNeeds.{as-many-needs, row-need}
 use Rattle.tables.specs.Tables.{blocks, Tells}
 use Rattle.tables.proofs.WordTables.{tells-same}
-use Rattle.tables.proofs.JobConditions.{chosen-need, past-needs}
 
 module _ (job : JobValue) (sound : Sound job) where
   pub few-columns : job .columns ≤ 16

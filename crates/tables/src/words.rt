@@ -1,5 +1,6 @@
 // Tables of a bit for each set: a word for each block of 64 sets.
 use columns::ColumnSet;
+use job::rows::MOST_MARKS;
 ghost use mathlib.Core.Path.{_≡_};
 ghost use mathlib.Core.Bool.{true, not};
 ghost use mathlib.Core.Option.{some};
@@ -38,7 +39,7 @@ pub fn hold(count: usize, table: &mut [u64])
 }
 
 // The sets that meet the need of a row are in the table.
-pub fn meet(row: &[u16; 63], count: usize, table: &mut [u64])
+pub fn meet(row: &[u16; MOST_MARKS], count: usize, table: &mut [u64])
     requires { ⌜ (count ≤ 1024) × (count ≤ length (now table)) ⌝ }
     ensures told { λ _. ⌜ ((v : Need) → needOf (beforeEnd (now (row .entry))) ≡ some v → Tells count (meets v) (now (table .exit))) ⌝ }
     ensures stays { λ _. ⌜ Stays count (now (table .entry)) (now (table .exit)) ⌝ }

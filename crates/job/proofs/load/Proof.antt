@@ -13,6 +13,9 @@ use Rattle.job.proofs.load.Tie as tie
 abbrev numbers : ℕ → List ℕ → List ℕ → Numbers
 numbers n sets all = record { columns = n; forbidden = sets; marks = all }
 
+cast-if2 : tie.Need-cast-if2
+cast-if2 c = search needs
+
 unfit-requires : tie.Need-unfit-requires
 unfit-requires c κs = search needs
 
@@ -85,6 +88,7 @@ pub load-spec : {M : Type 1} → statement M
 load-spec =
     tie.close
     (tie.spec
+    cast-if2
     unfit-requires
     returns
     cast-n

@@ -1,14 +1,12 @@
 -- `judge::judge` meets its contract. Assumes nothing.
 use mathlib.Core.Path.{_≡_, sym, ap, _∙_}
-use mathlib.Core.Bool.{not}
 use mathlib.Core.List.{List}
 use mathlib.Core.Option.{none}
 use Prim.Native.Nat.{ℕ}
 use borrow.Author.Tests.{not-true, not-false}
 use Rattle.rules.specs.Lists.{firstWhere}
 use Rattle.rules.specs.Numbers.{Numbers, setUnfit}
-use Rattle.rules.specs.Splits.{met}
-use Rattle.rules.specs.Verdicts.{firstForbidden, firstSharing}
+use Rattle.rules.specs.Verdicts.{firstForbidden, firstSharing, firstUnmet}
 use Rattle.job.specs.Findings.{placeOf}
 use Rattle.judge.specs.Answers.{placesOf}
 use Rattle.judge.proofs.Judging.{Known, is-loaded, not-loaded, same-columns, answer-improper, answer-forbids, answer-shares, answer-unmet, answer-right}
@@ -80,7 +78,7 @@ sharing-told : (b : lts.After-first-sharing claims reads.Pre reads.Post)
 sharing-told b = sym (b .first-sharing .ensures (known (back3 b) .job))
 
 unmet-told : (b : lts.After-first-unmet claims reads.Pre reads.Post)
-    → firstWhere (λ v. not (met (judgedOn (back4 b .before .before)) v)) (known (back4 b) .job .needs) ≡ placeOf (b .first-unmet .result)
+    → firstUnmet (known (back4 b) .job .needs) (judgedOn (back4 b .before .before)) ≡ placeOf (b .first-unmet .result)
 unmet-told b =
     let k = known (back4 b) in
     sym (b .first-unmet .ensures (k .job .needs) (k .many) (rw (b .before .rows-of .ensures) (k .stand)))

@@ -1,9 +1,9 @@
 -- `judge::pairs::first_contained` meets its contract. Assumes nothing.
 use mathlib.Core.Path.{_≡_, sym, _∙_}
-use Prim.Native.Nat.{_<_, _≤_, _-_}
+use Prim.Native.Nat.{_≤_, _-_}
 use native.Mathlib.Omega.{arith}
 use borrow.Author.Count.{below-more}
-use lib.ListN.{length, getD}
+use lib.ListN.{length}
 use Rattle.rules.specs.Sets.{contains}
 use Rattle.rules.proofs.Searches.{NoneBefore, first-found, nothing-found}
 use borrow.Author.Needs.{needs}

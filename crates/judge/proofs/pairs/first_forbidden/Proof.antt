@@ -1,9 +1,9 @@
 -- `judge::pairs::first_forbidden` meets its contract. Assumes nothing.
 use mathlib.Core.Path.{_≡_, sym, ap, _∙_}
-use Prim.Native.Nat.{_<_, _≤_, _-_}
+use Prim.Native.Nat.{_≤_, _-_}
 use native.Mathlib.Omega.{arith}
 use borrow.Author.Count.{below-more}
-use lib.ListN.{length, getD}
+use lib.ListN.{length}
 use Rattle.job.specs.Findings.{placeOf}
 use Rattle.rules.proofs.FirstFaults.{SafeBefore, forbidden-found, forbidden-nothing}
 use borrow.Author.Needs.{needs}

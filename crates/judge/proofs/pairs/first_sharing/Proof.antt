@@ -4,7 +4,7 @@ use Prim.Native.Nat.{_<_, _≤_, _-_}
 use native.Mathlib.Omega.{arith}
 use borrow.Author.Count.{below-more}
 use borrow.Author.Tests.{not-true, not-false}
-use lib.ListN.{length, getD}
+use lib.ListN.{length}
 use Rattle.rules.specs.Jobs.{Job}
 use Rattle.rules.proofs.FirstFaults.{UnlinkedTo, UnlinkedBefore, sharing-found, sharing-nothing, unlinked-apart}
 use Rattle.judge.specs.declared.pairs.Pair.the-variants.{Nothing}
@@ -71,7 +71,8 @@ loop-less c = search needs
 loop-again : tie.Need-loop-again Inv-loop μ-loop Inv-search μ-search
 loop-again c =
     let l = c .before .before .before .before .before .loop in
-    (omega arith, omega arith, l .inv .2, λ job. below-more _ (l .j) (l .inv .3 job) (λ g. unlinked-apart job _ _ ∙ sym (c .before .apart .ensures) ∙ not-false _ (c .if1 .left)))
+    let apart = sym (c .before .apart .ensures) ∙ not-false _ (c .if1 .left) in
+    (omega arith, omega arith, l .inv .2, λ job. below-more _ (l .j) (l .inv .3 job) (λ g. unlinked-apart job _ _ ∙ apart))
 
 -- src/pairs.rt:63:9
 add-i : tie.Need-add-i Inv-loop μ-loop Inv-search μ-search
@@ -103,7 +104,10 @@ returns-2 c =
     let l = c .before .before .before .before .before .loop in
     let o = c .before .before .before .before .before .before .before .search in
     let split = c .before .before .before .before .before .before .before .before .before .args .split .now in
-    λ job. sym (sharing-found job split (o .i) (l .j) (l .inv .0) (omega arith) (o .inv .2 job) (l .inv .3 job) (unlinked-apart job _ _ ∙ sym (c .before .apart .ensures) ∙ not-true _ (c .if1 .taken)))
+    let shared = sym (c .before .apart .ensures) ∙ not-true _ (c .if1 .taken) in
+    λ job.
+    sym
+    (sharing-found job split (o .i) (l .j) (l .inv .0) (omega arith) (o .inv .2 job) (l .inv .3 job) (unlinked-apart job _ _ ∙ shared))
 
 pub first-sharing-spec : {M : Type 1} → statement M
 first-sharing-spec =

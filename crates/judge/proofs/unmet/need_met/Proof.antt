@@ -1,7 +1,7 @@
 -- `judge::unmet::need_met` meets its contract. Assumes nothing.
 use mathlib.Core.Path.{_≡_, sym, _∙_}
 use mathlib.Core.Option.{some}
-use Prim.Native.Nat.{_<_, _≤_, _-_}
+use Prim.Native.Nat.{_≤_, _-_}
 use native.Mathlib.Omega.{arith}
 use borrow.Author.Count.{below-more}
 use lib.ListN.{length}
@@ -43,7 +43,8 @@ meets-requires c κs = search needs
 returns : tie.Need-returns Inv-loop μ-loop
 returns c =
     let l = c .before .before .before .before .loop in
-    λ v e. sym (met-found v (c .before .before .before .before .before .before .args .split .now) (l .i) (omega arith) (sym (c .before .meets .ensures v e) ∙ c .if1 .taken))
+    let split = c .before .before .before .before .before .before .args .split .now in
+    λ v e. sym (met-found v split (l .i) (omega arith) (sym (c .before .meets .ensures v e) ∙ c .if1 .taken))
 
 -- src/unmet.rt:26:9
 add-i : tie.Need-add-i Inv-loop μ-loop
