@@ -1,5 +1,5 @@
 -- A job that loading gives holds the numbers that were loaded, and is sound. Assumes nothing.
-use mathlib.Core.Path.{_≡_, refl, sym, ap, _∙_}
+use mathlib.Core.Path.{_≡_, refl, sym, ap, subst, _∙_}
 use mathlib.Core.Bool.{Bool, true, false, true≢false, false≢true}
 use mathlib.Core.List.{List}
 use Prim.Native.Nat.{ℕ, _≤_}
@@ -21,11 +21,11 @@ few-sets : (q : Numbers) → unfit q ≡ false → length (q .forbidden) ≤ 32
 unfolding setsTooMany
 few-sets q e = ltb-false 32 (length (q .forbidden)) (fit-clauses q e .fewSets)
 
-pub fit-numbers : (q : Numbers) → unfit q ≡ false → numbersIn (jobWith q) ≡ q
+fit-numbers : (q : Numbers) → unfit q ≡ false → numbersIn (jobWith q) ≡ q
 unfolding numbersIn jobWith
 fit-numbers q e = rw (held (q .forbidden) 32 (few-sets q e), held (q .marks) 512 (marks-few q e))
 
-pub fit-sound : (q : Numbers) → unfit q ≡ false → Sound (jobWith q)
+fit-sound : (q : Numbers) → unfit q ≡ false → Sound (jobWith q)
 unfolding jobWith
 fit-sound q e =
     record {
@@ -50,3 +50,11 @@ loaded-unfit q l e f = go (unfit q) refl
     go : (b : Bool) → unfit q ≡ b → unfit q ≡ true
     go true u = u
     go false u = absurd (false≢true (sym f ∙ ap (λ (r : Loaded). r .fit) e ∙ rw u))
+
+-- ---- what a caller of loading has, where the numbers are fit
+
+pub loaded-sound : (q : Numbers) (l : Loaded) → l ≡ loaded q → l .fit ≡ true → Sound (l .job)
+loaded-sound q l e f = let fit = loaded-fit q l e f in subst Sound (sym (fit .1)) (fit-sound q (fit .0))
+
+pub loaded-numbers : (q : Numbers) (l : Loaded) → l ≡ loaded q → l .fit ≡ true → numbersIn (l .job) ≡ q
+loaded-numbers q l e f = let fit = loaded-fit q l e f in ap numbersIn (fit .1) ∙ fit-numbers q (fit .0)
