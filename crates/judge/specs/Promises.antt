@@ -7,6 +7,6 @@ use Rattle.rules.specs.Verdicts.{judged}
 use Rattle.judge.specs.declared.Verdict.{Verdict}
 use Rattle.judge.specs.Answers.{verdictOf}
 
--- the promise allows this answer
+-- the promise allows this answer for these numbers and this split
 abbrev pub Judges : Numbers → List ℕ → Verdict → Type 0
 Judges q split answer = verdictOf answer ≡ judged q split

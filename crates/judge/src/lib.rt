@@ -4,12 +4,10 @@ use job::fitness::Found;
 use job::rows;
 use pairs::Pair;
 
-pub mod pairs; // pairs.rt: extracts with forbidden sets, extracts that share a column
-pub mod unmet; // unmet.rt: needs that no extract meets
+mod pairs; // pairs.rt: extracts with forbidden sets, extracts that share a column
+mod unmet; // unmet.rt: needs that no extract meets
 
-ghost use mathlib.Core.Path.{_≡_};
-ghost use Rattle.rules.specs.Verdicts.{judged};
-ghost use Rattle.judge.specs.Answers.{verdictOf};
+ghost use Rattle.judge.specs.Promises.{Judges};
 
 pub enum Verdict {
     Unfit, // refusal 7: the numbers are unfit
@@ -23,7 +21,7 @@ pub enum Verdict {
 // Judges a list of numbers as the split of a job. The first fault is answered, in the order of the answers, with the smallest indices.
 // It doesn't say whether fewer extracts would do.
 pub fn judge(columns: usize, forbidden: &[u16], marks: &[u16], split: &[u16]) -> Verdict
-    ensures { λ r. ⌜ verdictOf r ≡ judged (record { columns = columns; forbidden = now (forbidden .entry); marks = now (marks .entry) }) (now (split .entry)) ⌝ }
+    ensures { λ r. ⌜ Judges (record { columns = columns; forbidden = now (forbidden .entry); marks = now (marks .entry) }) (now (split .entry)) r ⌝ }
 {
     let loaded = job::load(columns, forbidden, marks);
     if !loaded.fit {

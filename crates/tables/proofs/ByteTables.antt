@@ -9,7 +9,7 @@ use lib.ListN.{length, getD, take, set}
 use lib.Seq.{getD-set-same, getD-set-other, getD-take, take-set-le}
 use borrow.Author.Count.{below-more}
 use Rattle.rules.specs.Sets.{has}
-use Rattle.tables.specs.Tables.{Tells, Lists, Stays}
+use Rattle.tables.specs.Tables.{Tells, Valued, Stays}
 use Rattle.tables.proofs.WordTables.{stays-at, stays-later, stays-set}
 
 -- ---- lane by lane in a block
@@ -55,8 +55,8 @@ module _ (lanes worth block : ℕ) (old : List ℕ) where
 -- the sets of the first so many blocks have their worth more, and nothing after them has changed
 abbrev pub Added : ℕ → ℕ → List ℕ → ℕ → List ℕ → List ℕ → Type 0
 Added worth count words block old new =
-    ((test : ℕ → Bool) (value : ℕ → ℕ) → Tells count test words → Lists (64 * count) value old
-    → Lists (64 * block) (λ s. value s + cond (test s) worth 0) new)
+    ((test : ℕ → Bool) (value : ℕ → ℕ) → Tells count test words → Valued (64 * count) value old
+    → Valued (64 * block) (λ s. value s + cond (test s) worth 0) new)
     × Stays (64 * block) old new
 
 pub added : (worth count : ℕ) (words : List ℕ) (block : ℕ) (old new last : List ℕ) → block < count → Added worth count words block old new
@@ -68,7 +68,7 @@ added worth count words block old new last h a g = (λ test value told listed s 
         let sum : 64 * (block + 1) ≡ 64 * block + 64 = omega arith in
         rw sum (g .stays ∙ stays-later (64 * block) (64 * block + 64) old new (omega arith) (a .1))
 
-    go : (test : ℕ → Bool) (value : ℕ → ℕ) → Tells count test words → Lists (64 * count) value old → (s : ℕ) → s < 64 * (block + 1)
+    go : (test : ℕ → Bool) (value : ℕ → ℕ) → Tells count test words → Valued (64 * count) value old → (s : ℕ) → s < 64 * (block + 1)
         → Dec (s < 64 * block) → getD last s 0 ≡ value s + cond (test s) worth 0
     go test value told listed s l (yes e) =
         sym (getD-take (64 * block) last s 0 e) ∙ ap (λ (t : List ℕ). getD t s 0) (g .before) ∙ getD-take (64 * block) new s 0 e

@@ -14,7 +14,7 @@ use Rattle.rules.specs.Jobs.{Job}
 use Rattle.rules.specs.Conditions.{condition, gain}
 use Rattle.rules.proofs.Counting.{upFrom-last}
 use Rattle.rules.proofs.SetBits.{worth-append, worth-within}
-use Rattle.tables.specs.Tables.{Lists}
+use Rattle.tables.specs.Tables.{Valued}
 
 -- ---- the worth of a set by the first needs
 
@@ -28,16 +28,16 @@ gain-more job k s = rw (add-one, upFrom-last 0 k, zero-add) (worth-append (λ i.
 -- ---- a table of the worths
 
 module _ (job : Job) (count : ℕ) (numbers : List ℕ) where
-  pub gains-none : (places : ℕ) → count ≤ places → numbers ≡ replicate places 0 → Lists count (gainOf job 0) numbers
+  pub gains-none : (places : ℕ) → count ≤ places → numbers ≡ replicate places 0 → Valued count (gainOf job 0) numbers
   unfolding worth upFrom
   gains-none places h e s l = ap (λ (t : List ℕ). getD t s 0) e ∙ getD-replicate places s 0 0 (omega arith)
 
-  pub gains-more : (k : ℕ) → Lists count (λ s. gainOf job k s + cond (condition job k s) (2 ^ k) 0) numbers → Lists count (gainOf job (k + 1)) numbers
+  pub gains-more : (k : ℕ) → Valued count (λ s. gainOf job k s + cond (condition job k s) (2 ^ k) 0) numbers → Valued count (gainOf job (k + 1)) numbers
   gains-more k listed s l = listed s l ∙ sym (gain-more job k s)
 
-  pub gains-below : (k : ℕ) → Lists count (gainOf job k) numbers → (s : ℕ) → s < count → getD numbers s 0 < 2 ^ k
+  pub gains-below : (k : ℕ) → Valued count (gainOf job k) numbers → (s : ℕ) → s < count → getD numbers s 0 < 2 ^ k
   gains-below k listed s l = rw (listed s l) (worth-within (λ i. condition job i s) k)
 
-  pub gains-all : (k : ℕ) → length (job .needs) ≡ k → Lists count (gainOf job k) numbers → Lists count (gain job) numbers
+  pub gains-all : (k : ℕ) → length (job .needs) ≡ k → Valued count (gainOf job k) numbers → Valued count (gain job) numbers
   unfolding gain
   gains-all k e listed s l = listed s l ∙ ap (λ (n : ℕ). gainOf job n s) (sym e)

@@ -16,8 +16,8 @@ abbrev pub Tells : ℕ → (ℕ → Bool) → List ℕ → Type 0
 Tells count test words = (block : ℕ) → block < count → Lanes block test (getD words block 0)
 
 -- a table of numbers has the value of each of the first so many sets at the set's own place
-abbrev pub Lists : ℕ → (ℕ → ℕ) → List ℕ → Type 0
-Lists count value numbers = (s : ℕ) → s < count → getD numbers s 0 ≡ value s
+abbrev pub Valued : ℕ → (ℕ → ℕ) → List ℕ → Type 0
+Valued count value numbers = (s : ℕ) → s < count → getD numbers s 0 ≡ value s
 
 -- of the sets that a table tells of, another table tells only of those of which a further test holds too
 abbrev pub Narrows : ℕ → (ℕ → Bool) → List ℕ → List ℕ → Type 0
@@ -31,8 +31,8 @@ AddsBlock k block lanes old new =
 -- the sets that a table of words tells of get need k, worth 2 to the power k
 abbrev pub Adds : ℕ → ℕ → List ℕ → List ℕ → List ℕ → Type 0
 Adds k count words old new =
-    (test : ℕ → Bool) (value : ℕ → ℕ) → Tells count test words → Lists (64 * count) value old
-    → Lists (64 * count) (λ s. value s + cond (test s) (2 ^ k) 0) new
+    (test : ℕ → Bool) (value : ℕ → ℕ) → Tells count test words → Valued (64 * count) value old
+    → Valued (64 * count) (λ s. value s + cond (test s) (2 ^ k) 0) new
 
 -- the places from here on are as they were
 abbrev pub Stays : ℕ → List ℕ → List ℕ → Type 0

@@ -9,7 +9,7 @@ use Rattle.rules.specs.Conditions.{condition}
 use Rattle.rules.specs.Numbers.{jobOf}
 use Rattle.rules.proofs.Numbers.{fit-job}
 use Rattle.job.specs.Records.{numbersIn}
-use Rattle.tables.specs.Tables.{Lists, Stays}
+use Rattle.tables.specs.Tables.{Valued, Stays}
 use Rattle.tables.proofs.Blocks.{few-blocks}
 use Rattle.tables.proofs.JobConditions.{gainOf, gains-none, gains-more, gains-below, gains-all}
 use Rattle.tables.proofs.JobTables.{few-needs, job-blocks, all-needs}
@@ -18,7 +18,7 @@ use Rattle.tables.proofs.gains.Tie as tie
 
 abbrev Inv-loop : tie.InvT-loop
 Inv-loop job table₀ count met₀ k₀ table met k =
-    (k ≤ job .needs) × ((j : Job) → jobOf (numbersIn job) ≡ some j → Lists (64 * count) (gainOf j k) table) × Stays (64 * count) table₀ table
+    (k ≤ job .needs) × ((j : Job) → jobOf (numbersIn job) ≡ some j → Valued (64 * count) (gainOf j k) table) × Stays (64 * count) table₀ table
 
 abbrev μ-loop : tie.MeasureT-loop
 μ-loop job table₀ count met₀ k₀ table met k = job .needs - k
