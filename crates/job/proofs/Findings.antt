@@ -14,10 +14,10 @@ use lib.Seq.{drop-cons, drop-drop}
 use borrow.Author.Tests.{ne-eqb, lt-ltb, le-ltb, leb-true, leb-false, not-true, not-false}
 use Rattle.rules.specs.Lists.{anyOf, keep}
 use Rattle.rules.specs.Needs.{Need, column, both, either}
-use Rattle.rules.specs.Marks.{andMark, orMark, rows, beforeEnd, joined, after, operandsOf, only, needOf}
+use Rattle.rules.specs.Marks.{andMark, rows, beforeEnd, joined, after, operandsOf, only, needOf}
 use Rattle.rules.specs.Numbers.{unclosed, absent, markless, joinsTooFew, leavesOther, markUnfit, columnMarksTooMany, needUnfit, needsTooMany}
 use Rattle.rules.proofs.Lists.{or-one, or-neither}
-use Rattle.rules.proofs.Marks.{afterEnd, rows-first, unclosed-first, unclosed-last, marks-first, before-part, before-within}
+use Rattle.rules.proofs.Marks.{isJoin, after-column, after-join, afterEnd, rows-first, unclosed-first, unclosed-last, marks-first, before-part, before-within}
 use Rattle.job.specs.Findings.{marksUnfit, needCount}
 
 -- ---- one need
@@ -64,11 +64,6 @@ pub one-most : (b : Bool) → cond b 1 0 ≤ 1
 one-most true = omega arith
 one-most false = omega arith
 
-joins : (m : ℕ) → (m ≡ andMark) ⊎ (m ≡ orMark) → (join : Need → Need → Need) × ((vs : List Need) → after m vs ≡ joined join vs)
-unfolding after
-joins m (inl e) = (both, λ vs. rw e)
-joins m (inr e) = (either, λ vs. rw e)
-
 joined-few : (join : Need → Need → Need) (vs : List Need) → length vs < 2 → joined join vs ≡ none
 unfolding joined
 joined-few join [] h = refl
@@ -87,11 +82,11 @@ module _ {n : ℕ} {need : List ℕ} {operands named i : ℕ} (left : Left n nee
   unfolding leftFit anyOf
   left-unfit e = left .same ∙ rw (drop-cons need i 0 h, e, or-true)
 
-  pub left-few : (getD need i 0 ≡ andMark) ⊎ (getD need i 0 ≡ orMark) → operands < 2 → needFit n need ≡ false
+  pub left-few : isJoin (getD need i 0) ≡ true → operands < 2 → needFit n need ≡ false
   unfolding leftFit operandsOf bind absent
   left-few j l =
-      let join = joins (getD need i 0) j in
-      left .same ∙ rw (drop-cons need i 0 h, join .1 (left .vs), joined-few (join .0) (left .vs) (omega arith))
+      let join = cond (eqb (getD need i 0) andMark) both either in
+      left .same ∙ rw (drop-cons need i 0 h, after-join (getD need i 0) (left .vs) j, joined-few join (left .vs) (omega arith))
 
   step : (us : List Need) → markUnfit n (getD need i 0) ≡ false → after (getD need i 0) (left .vs) ≡ some us
       → needFit n need ≡ leftFit n us (named + cond (ltb (getD need i 0) andMark) 1 0) (drop (i + 1) need)
@@ -105,20 +100,17 @@ module _ {n : ℕ} {need : List ℕ} {operands named i : ℕ} (left : Left n nee
       sums true = omega arith
       sums false = omega arith
 
-  pub left-join : markUnfit n (getD need i 0) ≡ false → (getD need i 0 ≡ andMark) ⊎ (getD need i 0 ≡ orMark) → 2 ≤ operands
+  pub left-join : markUnfit n (getD need i 0) ≡ false → isJoin (getD need i 0) ≡ true → 2 ≤ operands
       → Left n need (operands - 1) (named + cond (ltb (getD need i 0) andMark) 1 0) (i + 1)
   left-join f j l =
-      let join = joins (getD need i 0) j in
-      let us = joined-two (join .0) (left .vs) (omega arith) in
-      record { vs = us .0; many = omega (arith, us .1); same = step (us .0) f (join .1 (left .vs) ∙ us .2) }
+      let us = joined-two (cond (eqb (getD need i 0) andMark) both either) (left .vs) (omega arith) in
+      record { vs = us .0; many = omega (arith, us .1); same = step (us .0) f (after-join (getD need i 0) (left .vs) j ∙ us .2) }
 
-  pub left-column : markUnfit n (getD need i 0) ≡ false → ((getD need i 0 ≡ andMark) ⊎ (getD need i 0 ≡ orMark) → ⊥)
+  pub left-column : markUnfit n (getD need i 0) ≡ false → isJoin (getD need i 0) ≡ false
       → Left n need (operands + 1) (named + cond (ltb (getD need i 0) andMark) 1 0) (i + 1)
-  unfolding after
   left-column f j =
       let m = getD need i 0 in
-      let here = step (column m ∷ left .vs) f (rw (ne-eqb m andMark (λ e. j (inl e)), ne-eqb m orMark (λ e. j (inr e)))) in
-      record { vs = column m ∷ left .vs; many = omega arith; same = here }
+      record { vs = column m ∷ left .vs; many = omega arith; same = step (column m ∷ left .vs) f (after-column m (left .vs) j) }
 
 -- ---- the needs
 

@@ -1,5 +1,5 @@
 -- The rows of fit numbers stand for the needs of their job. Assumes nothing.
-use mathlib.Core.Path.{_≡_, refl, sym, ap}
+use mathlib.Core.Path.{_≡_, refl}
 use mathlib.Core.Bool.{true, false}
 use mathlib.Core.List.{List, [], _∷_}
 use mathlib.Core.Option.{some, bind, bind-eq-some-iff, Option·some-injective}
@@ -45,14 +45,6 @@ needs-at [] vs k d e h = absurd (omega arith)
 needs-at (row ∷ needs) vs zero d e h = let f = needs-first row needs vs e in rw (← f .4) (f .2)
 needs-at (row ∷ needs) vs (suc k) d e h = let f = needs-first row needs vs e in rw (← f .4) (needs-at needs (f .1) k d (f .3) (omega arith))
 
-needs-many : (needs : List (List ℕ)) (vs : List Need) → needsOf needs ≡ some vs → length vs ≡ length needs
-unfolding needsOf
-needs-many [] vs e = sym (ap length (Option·some-injective [] vs e))
-needs-many (row ∷ needs) vs e = let f = needs-first row needs vs e in rw (← f .4) (ap suc (needs-many needs (f .1) (f .3)))
-
-pub as-many-needs : (q : Numbers) (job : Job) → jobOf q ≡ some job → length (job .needs) ≡ length (rows (q .marks))
-as-many-needs q job e = needs-many (rows (q .marks)) (job .needs) (job-fit q job e .needs)
-
 -- the marks of a row of fit numbers are those before its first end mark
 pub row-marks : (q : Numbers) → unfit q ≡ false → (k : ℕ) → k < length (rows (q .marks))
     → beforeEnd (getD (rowsOf (rows (q .marks))) k []) ≡ getD (rows (q .marks)) k []
@@ -70,5 +62,5 @@ pub row-need : (q : Numbers) (job : Job) → jobOf q ≡ some job → (k : ℕ) 
     → needOf (beforeEnd (getD (rowsOf (rows (q .marks))) k [])) ≡ some (getD (job .needs) k (column 0))
 row-need q job e k h =
     let j = job-fit q job e in
-    let l : k < length (rows (q .marks)) = omega (arith, as-many-needs q job e) in
+    let l : k < length (rows (q .marks)) = omega (arith, j .asManyNeeds) in
     rw (row-marks q (fit-of-job q job e) k l) (needs-at (rows (q .marks)) (job .needs) k (column 0) (j .needs) l)

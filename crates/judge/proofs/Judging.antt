@@ -20,7 +20,7 @@ use Rattle.job.specs.Rows.{rowsOf, StandFor}
 use Rattle.job.specs.declared.Job.{Job as Held}
 use Rattle.job.specs.declared.Loaded.{Loaded}
 use Rattle.job.proofs.Records.{loaded-fit, loaded-unfit}
-use Rattle.job.proofs.RowNeeds.{as-many-needs, row-need}
+use Rattle.job.proofs.RowNeeds.{row-need}
 
 -- ---- what loading tells
 
@@ -41,7 +41,7 @@ unfolding jobWith
 is-loaded q l e f =
     let fit = loaded-fit q l e f in
     let j = fit-job q (fit .0) in
-    let many : length (j .0 .needs) ≡ l .job .needs = as-many-needs q (j .0) (j .1 .same) ∙ sym (ap (λ (job : Held). job .needs) (fit .1)) in
+    let many : length (j .0 .needs) ≡ l .job .needs = j .1 .asManyNeeds ∙ sym (ap (λ (job : Held). job .needs) (fit .1)) in
     record {
       job = j .0;
       known = j .1 .same;

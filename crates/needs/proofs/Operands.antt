@@ -1,6 +1,6 @@
 -- The operands of a need as words of lanes, in the first places of a list, the last operand last. Assumes nothing.
 use mathlib.Core.Path.{_≡_, refl, ap₂, _∙_}
-use mathlib.Core.Bool.{Bool, true, false, cond, _&&_, _||_, false≢true}
+use mathlib.Core.Bool.{Bool, true, false, cond, _&&_, _||_}
 use mathlib.Core.List.{List, [], _∷_}
 use mathlib.Core.Option.{some, bind, Option·none-ne-some, Option·some-injective}
 use Prim.Native.Nat.{ℕ, suc, _+_, _-_, _≤_, _<_}
@@ -9,12 +9,11 @@ use native.Mathlib.Numerals.{add-one}
 use lib.Bits.{bitAnd, bitOr}
 use lib.Dec.{eqb}
 use lib.ListN.{length, getD, set, drop, length-set}
-use lib.Seq.{getD-set-same, getD-set-other, drop-cons, drop-length}
-use borrow.Author.Tests.{eq-eqb, ne-eqb}
+use lib.Seq.{getD-set-same, getD-set-other}
 use Rattle.rules.specs.Sets.{has}
 use Rattle.rules.specs.Needs.{Need, column, both, either, meets}
-use Rattle.rules.specs.Marks.{andMark, orMark, endMark, beforeEnd, joined, after, operandsOf, only, needOf}
-use Rattle.rules.proofs.Lists.{or-neither}
+use Rattle.rules.specs.Marks.{andMark, endMark, beforeEnd, joined, after, operandsOf, only, needOf}
+use Rattle.rules.proofs.Marks.{isJoin, after-column, after-join, before-later}
 use Rattle.rules.proofs.SetBits.{has-and, has-or}
 use Rattle.needs.specs.Lanes.{Lanes}
 
@@ -39,24 +38,7 @@ unfolding Stacked
 stacked-more block words v vs word h l s =
     (rw (getD-set-same words (length vs) word 0 h) l, stacked-past block words vs (length vs) word (omega arith) s)
 
--- ---- what one mark does to the operands
-
-abbrev pub isJoin : ℕ → Bool
-isJoin m = eqb m andMark || eqb m orMark
-
-after-column : (m : ℕ) (vs : List Need) → isJoin m ≡ false → after m vs ≡ some (column m ∷ vs)
-unfolding after
-after-column m vs j = let parts = or-neither (eqb m andMark) (eqb m orMark) j in rw (parts .0, parts .1)
-
-after-join : (m : ℕ) (vs : List Need) → isJoin m ≡ true → after m vs ≡ joined (cond (eqb m andMark) both either) vs
-unfolding after
-after-join m vs = go (eqb m andMark) (eqb m orMark)
-  where
-    go : (a o : Bool) → (a || o) ≡ true
-        → cond a (joined both vs) (cond o (joined either vs) (some (column m ∷ vs))) ≡ joined (cond a both either) vs
-    go true o e = refl
-    go false true e = refl
-    go false false e = absurd (false≢true e)
+-- ---- two operands joined
 
 abbrev joinedWord : ℕ → ℕ → ℕ → ℕ
 joinedWord m left right = cond (eqb m andMark) (bitAnd left right) (bitOr left right)
@@ -119,19 +101,6 @@ module _ (block m : ℕ) (marks words : List ℕ) (v : Need) where
 
 -- ---- a row, one mark after the other
 
-marks-next : (row : List ℕ) (i : ℕ) → i < length row → (getD row i 0 ≡ endMark → ⊥)
-    → beforeEnd (drop i row) ≡ getD row i 0 ∷ beforeEnd (drop (i + 1) row)
-unfolding beforeEnd
-marks-next row i h n = rw (add-one, drop-cons row i 0 h, ne-eqb (getD row i 0) endMark n)
-
-pub marks-end : (row : List ℕ) (i : ℕ) → i < length row → getD row i 0 ≡ endMark → beforeEnd (drop i row) ≡ []
-unfolding beforeEnd
-marks-end row i h e = rw (drop-cons row i 0 h, eq-eqb (getD row i 0) endMark e)
-
-pub marks-over : (row : List ℕ) (i : ℕ) → i ≡ length row → beforeEnd (drop i row) ≡ []
-unfolding beforeEnd
-marks-over row i e = rw (e, drop-length row)
-
 -- the marks before place i are read: if the row is a need, the others lead to it from the operands so far
 pub record Read (block : ℕ) (row : List ℕ) (i : ℕ) (words : List ℕ) (count : ℕ) : Type 0 where
   pub whole : length row ≡ 63
@@ -158,7 +127,7 @@ module _ {block : ℕ} {row : List ℕ} {i : ℕ} {words : List ℕ} {count : �
           room = l ∙ r .room;
           within = omega arith;
           few = f;
-          leads = λ v e. turn v (rw (marks-next row i h n) at (r .leads v e));
+          leads = λ v e. turn v (rw (before-later row i h n) at (r .leads v e));
         }
 
     pub read-column : (word : ℕ) → isJoin (getD row i 0) ≡ false → Lanes block (has (getD row i 0)) word

@@ -1,6 +1,6 @@
 -- Laws of rows of marks: the first row ends at the first end mark, and fit numbers have few marks. Assumes nothing.
 use mathlib.Core.Path.{_≡_, refl, sym, ap}
-use mathlib.Core.Bool.{Bool, true, false, not, cond, _&&_, _||_, true≢false, or-assoc}
+use mathlib.Core.Bool.{Bool, true, false, not, cond, _&&_, _||_, true≢false, false≢true, or-assoc}
 use mathlib.Core.List.{List, [], _∷_}
 use mathlib.Core.Option.{some, bind-eq-some-iff, Option·some-injective, Option·none-ne-some}
 use Prim.Native.Nat.{ℕ, suc, _+_, _-_, _*_, _≤_, _<_}
@@ -15,7 +15,7 @@ use Rattle.rules.specs.Needs.{Need, column, both, either}
 use Rattle.rules.specs.Marks.{andMark, orMark, endMark, inFront, rows, beforeEnd, joined, after, operandsOf, only, needOf}
 use Rattle.rules.specs.Numbers.{Numbers, unfit, unclosed, markUnfit, needUnfit, columnMarksTooMany, needsTooMany}
 use Rattle.rules.proofs.Lists.{and-parts, or-neither}
-use Rattle.rules.proofs.Numbers.{fit-clauses, need-clauses, row-need}
+use Rattle.rules.proofs.Numbers.{fit-clauses, need-clauses, fit-need}
 
 -- ---- the first row
 
@@ -109,16 +109,16 @@ marks-first n (m ∷ marks) = go (eqb m endMark) refl (marks-first n marks)
 
 -- ---- the first row from a place on
 
-pub before-here : (marks : List ℕ) (i : ℕ) → i < length marks → getD marks i 0 ≡ endMark → length (beforeEnd (drop i marks)) ≡ 0
+pub before-here : (marks : List ℕ) (i : ℕ) → i < length marks → getD marks i 0 ≡ endMark → beforeEnd (drop i marks) ≡ []
 unfolding beforeEnd
 before-here marks i h e = rw (drop-cons marks i 0 h, eq-eqb (getD marks i 0) endMark e)
 
 pub before-later : (marks : List ℕ) (i : ℕ) → i < length marks → (getD marks i 0 ≡ endMark → ⊥)
-    → length (beforeEnd (drop i marks)) ≡ suc (length (beforeEnd (drop (i + 1) marks)))
+    → beforeEnd (drop i marks) ≡ getD marks i 0 ∷ beforeEnd (drop (i + 1) marks)
 unfolding beforeEnd
 before-later marks i h n = rw (add-one, drop-cons marks i 0 h, ne-eqb (getD marks i 0) endMark n)
 
-pub before-past : (marks : List ℕ) (i : ℕ) → length marks ≤ i → length (beforeEnd (drop i marks)) ≡ 0
+pub before-past : (marks : List ℕ) (i : ℕ) → length marks ≤ i → beforeEnd (drop i marks) ≡ []
 unfolding beforeEnd
 before-past marks i h = rw (drop-of-length-le marks h)
 
@@ -130,6 +130,25 @@ pub before-part : (marks : List ℕ) (i to : ℕ) → to ≡ i + length (beforeE
 before-part marks i to e =
     let long : to - i ≡ length (beforeEnd (drop i marks)) = omega arith in
     rw long (sym (before-take (drop i marks)))
+
+-- ---- what one mark does to the operands
+
+abbrev pub isJoin : ℕ → Bool
+isJoin m = eqb m andMark || eqb m orMark
+
+pub after-column : (m : ℕ) (vs : List Need) → isJoin m ≡ false → after m vs ≡ some (column m ∷ vs)
+unfolding after
+after-column m vs j = let parts = or-neither (eqb m andMark) (eqb m orMark) j in rw (parts .0, parts .1)
+
+pub after-join : (m : ℕ) (vs : List Need) → isJoin m ≡ true → after m vs ≡ joined (cond (eqb m andMark) both either) vs
+unfolding after
+after-join m vs = go (eqb m andMark) (eqb m orMark)
+  where
+    go : (a o : Bool) → (a || o) ≡ true
+        → cond a (joined both vs) (cond o (joined either vs) (some (column m ∷ vs))) ≡ joined (cond a both either) vs
+    go true o e = refl
+    go false true e = refl
+    go false false e = absurd (false≢true e)
 
 -- ---- a fit need has at most 63 marks: one operand is left, so it has one join less than columns
 
@@ -186,7 +205,7 @@ only-length (w ∷ u ∷ vs) v e = absurd (Option·none-ne-some v e)
 pub need-few : (row : List ℕ) → belowEnd row ≡ true → needUnfit row ≡ false → length row ≤ 63
 unfolding needOf columnMarksTooMany bind-eq-some-iff
 need-few row h e =
-    let v = row-need row e in
+    let v = fit-need row e in
     let left = bind-eq-some-iff (operandsOf row []) only .0 (v .1) in
     let few = ltb-false 32 (length (keep (λ m. ltb m andMark) row)) (need-clauses row e .fewColumns) in
     omega (arith, operands-marks row [] (left .0) h (left .1), only-length (left .0) (v .0) (left .2))

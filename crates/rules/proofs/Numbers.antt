@@ -62,9 +62,9 @@ unfolding absent
 present none e = absurd (true≢false e)
 present (some a) e = (a, refl)
 
-pub row-need : (row : List ℕ) → needUnfit row ≡ false → (v : Need) × (needOf row ≡ some v)
+pub fit-need : (row : List ℕ) → needUnfit row ≡ false → (v : Need) × (needOf row ≡ some v)
 unfolding leavesOther
-row-need row e = present (needOf row) (need-clauses row e .leaves)
+fit-need row e = present (needOf row) (need-clauses row e .leaves)
 
 -- every row stands for a need
 pub record Needed (needs : List (List ℕ)) (vs : List Need) : Type 0 where
@@ -76,7 +76,7 @@ unfolding anyOf needsOf bind
 rows-needs [] e = ([], record { are = refl; many = refl })
 rows-needs (row ∷ needs) e =
     let parts = or-neither (needUnfit row) (anyOf needUnfit needs) e in
-    let v = row-need row (parts .0) in
+    let v = fit-need row (parts .0) in
     let vs = rows-needs needs (parts .1) in
     (v .0 ∷ vs .0, record { are = rw (v .1, vs .1 .are); many = ap suc (vs .1 .many) })
 
@@ -86,6 +86,7 @@ pub record JobOf (q : Numbers) (job : Job) : Type 0 where
   pub columns : job .columns ≡ q .columns
   pub forbidden : job .forbidden ≡ q .forbidden
   pub needs : needsOf (rows (q .marks)) ≡ some (job .needs)
+  pub asManyNeeds : length (job .needs) ≡ length (rows (q .marks))
   pub someColumns : 0 < job .columns
   pub fewColumns : job .columns ≤ 16
   pub fewNeeds : length (job .needs) ≤ 8
@@ -105,6 +106,7 @@ fit-job q e =
         columns = refl;
         forbidden = refl;
         needs = vs .1 .are;
+        asManyNeeds = vs .1 .many;
         someColumns = omega arith;
         fewColumns = few;
         fewNeeds = omega (arith, vs .1 .many);

@@ -2,7 +2,7 @@
 use mathlib.Core.Path.{_≡_, refl, sym, ap, _∙_}
 use mathlib.Core.Bool.{Bool, true, false, not, cond, true≢false}
 use mathlib.Core.List.{List, [], _∷_}
-use mathlib.Core.Option.{Option, none, some, Option·map, Option·getD, orElse, Option·some-injective}
+use mathlib.Core.Option.{Option, none, some, Option·map, Option·getD, orElse, Option·some-injective, Option·none-ne-some}
 use Prim.Native.Nat.{ℕ}
 use borrow.Author.Tests.{not-true, not-false}
 use Rattle.rules.specs.Lists.{every, firstWhere}
@@ -56,15 +56,26 @@ isRight (shares i j) = false
 isRight (unmet k) = false
 isRight right = true
 
-module _ {A : Type 0} (fault : A → Verdict) (wrong : (a : A) → isRight (fault a) ≡ false) where
-  wrong-map : (o : Option A) → Option·map fault o ≡ some right → ⊥
-  wrong-map none e = let z : _≡_ {A = Bool} true false = cc in true≢false z
-  wrong-map (some a) e = true≢false (sym (ap isRight (Option·some-injective (fault a) right e)) ∙ wrong a)
-
-  wrong-else : (o : Option A) (rest : Option Verdict) → (rest ≡ some right → ⊥) → orElse (Option·map fault o) rest ≡ some right → ⊥
+-- what holds of no fault and of each kind of fault holds of the first fault
+module _ (P : Option Verdict → Type 0) where
+  kind : {A : Type 0} (fault : A → Verdict) (o : Option A) (rest : Option Verdict) → ((a : A) → P (some (fault a))) → P rest
+      → P (orElse (Option·map fault o) rest)
   unfolding orElse
-  wrong-else none rest f e = f e
-  wrong-else (some a) rest f e = wrong-map (some a) e
+  kind fault none rest f p = p
+  kind fault (some a) rest f p = f a
+
+  last-kind : {A : Type 0} (fault : A → Verdict) (o : Option A) → ((a : A) → P (some (fault a))) → P none → P (Option·map fault o)
+  last-kind fault none f p = p
+  last-kind fault (some a) f p = f a
+
+  any-fault : (job : Job) (split : List ℕ) → P none → ((i : ℕ) → P (some (improper i))) → ((i j : ℕ) → P (some (forbids i j)))
+      → ((i j : ℕ) → P (some (shares i j))) → ((k : ℕ) → P (some (unmet k))) → P (firstFault job split)
+  unfolding firstFault
+  any-fault job split n a b c d =
+      kind improper (firstImproper job split) _ a
+      (kind (λ (p : Places). forbids (p .i) (p .j)) (firstForbidden (job .forbidden) split) _ (λ p. b (p .i) (p .j))
+      (kind (λ (p : Places). shares (p .i) (p .j)) (firstSharing job split) _ (λ p. c (p .i) (p .j))
+      (last-kind unmet (firstUnmet (job .needs) split) d n)))
 
 -- ---- each of the faults
 
@@ -124,12 +135,12 @@ module _ (job : Job) where
       (none-map _ _ (every-faultless (met split) (job .needs) (p .met)))))
 
   never-right : (split : List ℕ) → firstFault job split ≡ some right → ⊥
-  unfolding firstFault
   never-right split =
-      wrong-else improper (λ i. refl) (firstImproper job split) _
-      (wrong-else (λ (p : Places). forbids (p .i) (p .j)) (λ p. refl) (firstForbidden (job .forbidden) split) _
-      (wrong-else (λ (p : Places). shares (p .i) (p .j)) (λ p. refl) (firstSharing job split) _
-      (wrong-map unmet (λ k. refl) (firstUnmet (job .needs) split))))
+      any-fault (λ o. o ≡ some right → ⊥) job split (λ e. Option·none-ne-some right e) (λ i. wrong (improper i) refl)
+      (λ i j. wrong (forbids i j) refl) (λ i j. wrong (shares i j) refl) (λ k. wrong (unmet k) refl)
+    where
+      wrong : (v : Verdict) → isRight v ≡ false → some v ≡ some right → ⊥
+      wrong v f e = true≢false (sym (ap isRight (Option·some-injective v right e)) ∙ f)
 
   pub right-correct : (split : List ℕ) → verdict job split ≡ right → correct job split ≡ true
   unfolding verdict
@@ -145,25 +156,10 @@ module _ (job : Job) where
 
 -- ---- no answer for a job is a refusal
 
-module _ {A : Type 0} (fault : A → Verdict) (given : (a : A) → refusalOf (fault a) ≡ none) where
-  given-else : (o : Option A) (rest : Option Verdict) → refusalOf (Option·getD rest right) ≡ none
-      → refusalOf (Option·getD (orElse (Option·map fault o) rest) right) ≡ none
-  unfolding orElse
-  given-else none rest e = e
-  given-else (some a) rest e = given a
-
-  given-last : (o : Option A) → refusalOf (Option·getD (Option·map fault o) right) ≡ none
-  unfolding refusalOf
-  given-last none = refl
-  given-last (some a) = given a
-
 pub verdict-given : (job : Job) (split : List ℕ) → refusalOf (verdict job split) ≡ none
-unfolding verdict firstFault refusalOf
+unfolding verdict refusalOf
 verdict-given job split =
-    given-else improper (λ i. refl) (firstImproper job split) _
-    (given-else (λ (p : Places). forbids (p .i) (p .j)) (λ p. refl) (firstForbidden (job .forbidden) split) _
-    (given-else (λ (p : Places). shares (p .i) (p .j)) (λ p. refl) (firstSharing job split) _
-    (given-last unmet (λ k. refl) (firstUnmet (job .needs) split))))
+    any-fault (λ o. refusalOf (Option·getD o right) ≡ none) job split refl (λ i. refl) (λ i j. refl) (λ i j. refl) (λ k. refl)
 
 -- ---- the answer for numbers
 

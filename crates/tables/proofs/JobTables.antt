@@ -15,14 +15,14 @@ use Rattle.rules.specs.Jobs.{Job, safe}
 use Rattle.rules.specs.Conditions.{meetsChosen, condition}
 use Rattle.rules.proofs.Numbers.{fit-job, job-fit}
 use Rattle.rules.proofs.Conditions.{chosen-need, past-needs}
-use Rattle.job.specs.declared.Job.{Job as JobValue}
+use Rattle.job.specs.declared.Job.{Job as Held}
 use Rattle.job.specs.Records.{numbersIn, Sound}
 use Rattle.job.specs.Rows.{rowsOf}
-use Rattle.job.proofs.RowNeeds.{as-many-needs, row-need}
+use Rattle.job.proofs.RowNeeds.{row-need}
 use Rattle.tables.specs.Tables.{blocks, Tells}
 use Rattle.tables.proofs.WordTables.{tells-same}
 
-module _ (job : JobValue) (sound : Sound job) where
+module _ (job : Held) (sound : Sound job) where
   pub few-columns : job .columns ≤ 16
   unfolding numbersIn
   few-columns = let f = fit-job (numbersIn job) (sound .fit) in omega (arith, f .1 .columns, f .1 .fewColumns)
@@ -30,14 +30,14 @@ module _ (job : JobValue) (sound : Sound job) where
   pub few-needs : job .needs ≤ 8
   few-needs =
       let f = fit-job (numbersIn job) (sound .fit) in
-      omega (arith, as-many-needs (numbersIn job) (f .0) (f .1 .same), sound .needs, f .1 .fewNeeds)
+      omega (arith, f .1 .asManyNeeds, sound .needs, f .1 .fewNeeds)
 
   pub job-blocks : blocks (min (job .columns) 16) ≡ blocks (job .columns)
   job-blocks = let same : min (job .columns) 16 ≡ job .columns = omega (arith, few-columns) in rw same
 
   module _ (j : Job) (e : jobOf (numbersIn job) ≡ some j) where
     pub all-needs : length (j .needs) ≡ job .needs
-    all-needs = as-many-needs (numbersIn job) j e ∙ sym (sound .needs)
+    all-needs = job-fit (numbersIn job) j e .asManyNeeds ∙ sym (sound .needs)
 
     pub need-told : (chosen count : ℕ) (words : List ℕ) → chosen < job .needs
         → ((v : Need) → needOf (beforeEnd (getD (rowsOf (rows (take (job .marked) (job .marks)))) chosen [])) ≡ some v → Tells count (meets v) words)

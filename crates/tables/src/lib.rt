@@ -8,7 +8,7 @@ ghost use mathlib.Core.Path.{_≡_};
 ghost use mathlib.Core.Option.{some};
 ghost use Prim.Native.Nat.{_*_, _≤_};
 ghost use lib.ListN.{replicate};
-ghost use Rattle.rules.specs.Jobs.{Job as JobOf};
+ghost use Rattle.rules.specs.Jobs.{Job as Meant};
 ghost use Rattle.rules.specs.Numbers.{jobOf};
 ghost use Rattle.rules.specs.Conditions.{condition, gain};
 ghost use Rattle.job.specs.Records.{numbersIn, Sound};
@@ -17,7 +17,7 @@ ghost use Rattle.tables.specs.Tables.{blocks, Tells, Valued, Stays};
 // The condition of a chosen need at every set of the job's columns. The index equal to the number of needs stands for "no need".
 pub fn conditions(job: Job, chosen: usize, table: &mut [u64; 1024])
     requires { ⌜ Sound job × (chosen ≤ job .needs) ⌝ }
-    ensures told { λ _. ⌜ ((j : JobOf) → jobOf (numbersIn job) ≡ some j → Tells (blocks (job .columns)) (condition j chosen) (now (table .exit))) ⌝ }
+    ensures told { λ _. ⌜ ((j : Meant) → jobOf (numbersIn job) ≡ some j → Tells (blocks (job .columns)) (condition j chosen) (now (table .exit))) ⌝ }
     ensures stays { λ _. ⌜ Stays (blocks (job .columns)) (now (table .entry)) (now (table .exit)) ⌝ }
 {
     let count = words::block_count(job.columns);
@@ -43,7 +43,7 @@ pub fn conditions(job: Job, chosen: usize, table: &mut [u64; 1024])
 // Which needs every set of the job's columns meets, where it is safe: need k is bit k. The table has been 0.
 pub fn gains(job: Job, table: &mut [u8; 65536])
     requires { ⌜ Sound job × (now table ≡ replicate 65536 0) ⌝ }
-    ensures told { λ _. ⌜ ((j : JobOf) → jobOf (numbersIn job) ≡ some j → Valued (64 * blocks (job .columns)) (gain j) (now (table .exit))) ⌝ }
+    ensures told { λ _. ⌜ ((j : Meant) → jobOf (numbersIn job) ≡ some j → Valued (64 * blocks (job .columns)) (gain j) (now (table .exit))) ⌝ }
     ensures stays { λ _. ⌜ Stays (64 * blocks (job .columns)) (now (table .entry)) (now (table .exit)) ⌝ }
 {
     let count = words::block_count(job.columns);

@@ -8,7 +8,8 @@ use borrow.Author.Needs.{needs}
 use borrow.Author.Tests.{ne-eqb}
 use denote.Ref.{now}
 use lib.ListN.{length, getD}
-use Rattle.needs.proofs.Operands.{Read, read-none, read-all, read-column, read-join, read-no-join, isJoin, marks-end, marks-over}
+use Rattle.rules.proofs.Marks.{isJoin, before-here, before-past}
+use Rattle.needs.proofs.Operands.{Read, read-none, read-all, read-column, read-join, read-no-join}
 use Rattle.needs.proofs.met_lanes.Statement.{statement}
 use Rattle.needs.proofs.met_lanes.Tie as tie
 
@@ -103,7 +104,7 @@ returns c =
     let row = now (c .before .before .before .args .row) in
     let l = c .before .loop in
     read-all (l .inv)
-    (⊎-elim (λ w. marks-over row (l .i) (omega arith)) (λ w. marks-end row (l .i) (omega arith) (w .2 .taken)) (c .loop-test .came))
+    (⊎-elim (λ w. before-past row (l .i) (omega arith)) (λ w. before-here row (l .i) (omega arith) (w .2 .taken)) (c .loop-test .came))
 
 pub met-lanes-spec : {M : Type 1} → statement M
 met-lanes-spec =

@@ -1,13 +1,13 @@
 -- `job::fitness::need_fit` meets its contract. The invariant: whether the need is fit follows from what is known after i marks. Assumes nothing.
 use mathlib.Core.Path.{sym, _∙_, _≡_}
-use mathlib.Core.Logic.{_⊎_, inl, inr, ⊎-elim}
-use mathlib.Core.Bool.{true, false, true≢false}
+use mathlib.Core.Logic.{⊎-elim}
 use Prim.Native.Nat.{ℕ, _+_, _≤_, _-_}
 use native.Mathlib.Omega.{arith}
 use lib.Dec.{ltb}
 use lib.ListN.{length, getD}
-use borrow.Author.Tests.{eqb-true, eqb-false, eq-eqb, ne-eqb}
+use borrow.Author.Tests.{ne-eqb}
 use borrow.Author.Needs.{needs}
+use Rattle.rules.proofs.Marks.{isJoin}
 use Rattle.job.proofs.Findings.{Left, left-start, left-unfit, left-few, left-join, left-column, left-end, one-most}
 use Rattle.job.proofs.fitness.need_fit.Statement.{statement}
 use Rattle.job.proofs.fitness.need_fit.Tie as tie
@@ -32,13 +32,9 @@ Tested =
 abbrev mark : Tested → ℕ
 mark c = getD (c .before .before .before .before .before .before .before .args .need .now) (c .before .before .before .before .before .loop .i) 0
 
-a-join : (c : Tested) → c .if2 .if3 ≡ true → (mark c ≡ 16) ⊎ (mark c ≡ 17)
-a-join c e = ⊎-elim (λ w. inl (w .0 .taken)) (λ w. inr (eqb-true (mark c) 17 (sym (w .1) ∙ e))) (c .if2 .came)
-
-no-join : (c : Tested) → c .if2 .if3 ≡ false → (mark c ≡ 16) ⊎ (mark c ≡ 17) → ⊥
-no-join c e =
-    ⊎-elim (λ w _. absurd (true≢false (sym (eq-eqb (mark c) 16 (w .0 .taken)) ∙ sym (w .1) ∙ e)))
-    (λ w. ⊎-elim (w .0 .left) (eqb-false (mark c) 17 (sym (w .1) ∙ e))) (c .if2 .came)
+-- the code's test of a mark, by || of two tests, is the test of a join
+join-test : (c : Tested) → c .if2 .if3 ≡ isJoin (mark c)
+join-test c = ⊎-elim (λ w. w .1 ∙ rw (w .0 .taken)) (λ w. w .1 ∙ rw (ne-eqb (mark c) 16 (w .0 .left))) (c .if2 .came)
 
 loop-holds : tie.Need-loop-holds Inv-loop μ-loop
 loop-holds c = (search needs, search needs, left-start _ _)
@@ -61,7 +57,7 @@ returns-2 : tie.Need-returns-2 Inv-loop μ-loop
 returns-2 c =
     let l = c .before .before .before .before .before .before .before .loop in
     let more = c .before .before .before .before .before .before .loop-test .taken in
-    sym (left-few (l .inv .2) more (a-join (c .before .before) (c .before .if3 .taken)) (c .if4 .taken))
+    sym (left-few (l .inv .2) more (sym (join-test (c .before .before)) ∙ c .before .if3 .taken) (c .if4 .taken))
 
 sub-operands : tie.Need-sub-operands Inv-loop μ-loop
 sub-operands c = search needs
@@ -89,12 +85,13 @@ loop-again c =
     let more = c .before .before .before .before .before .before .loop-test .taken in
     let fit = sym (c .before .before .before .before .mark-unfit .ensures) ∙ c .before .before .before .if1 .left in
     let few : c .column-marks .result ≤ 1 = rw (c .column-marks .ensures) (one-most (ltb (mark (c .before .before)) 16)) in
+    let test = sym (join-test (c .before .before)) in
     let most : c .before .if3 .operands ≤ l .i + 1 = ⊎-elim (λ w. omega arith) (λ w. omega arith) (c .before .if3 .came) in (
       most,
       omega arith,
       rw (c .column-marks .ensures) (
-          ⊎-elim (λ w. rw (w .2) (left-join (l .inv .2) more fit (a-join (c .before .before) (w .0 .taken)) (w .1 .left)))
-          (λ w. rw (w .1) (left-column (l .inv .2) more fit (no-join (c .before .before) (w .0 .left)))) (c .before .if3 .came)),
+          ⊎-elim (λ w. rw (w .2) (left-join (l .inv .2) more fit (test ∙ w .0 .taken) (w .1 .left)))
+          (λ w. rw (w .1) (left-column (l .inv .2) more fit (test ∙ w .0 .left))) (c .before .if3 .came)),
     )
 
 returns-3 : tie.Need-returns-3 Inv-loop μ-loop

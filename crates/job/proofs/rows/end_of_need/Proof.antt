@@ -1,5 +1,5 @@
 -- `job::rows::end_of_need` meets its contract. The invariant: the first end mark from here on is the first from the start on. Assumes nothing.
-use mathlib.Core.Path.{_≡_}
+use mathlib.Core.Path.{_≡_, ap}
 use Prim.Native.Nat.{_+_, _-_}
 use native.Mathlib.Omega.{arith}
 use lib.ListN.{length, drop}
@@ -27,7 +27,8 @@ shared-slice-read-if1 c = search needs
 returns : tie.Need-returns Inv-loop μ-loop
 returns c =
     let l = c .before .before .before .loop in
-    omega (arith, l .inv, before-here (c .before .before .before .before .args .marks .now) (l .at) (c .before .before .loop-test .taken) (c .if1 .taken))
+    let marks = c .before .before .before .before .args .marks .now in
+    omega (arith, l .inv, ap length (before-here marks (l .at) (c .before .before .loop-test .taken) (c .if1 .taken)))
 
 add-at : tie.Need-add-at Inv-loop μ-loop
 add-at c = search needs
@@ -38,13 +39,13 @@ loop-less c = search needs
 loop-again : tie.Need-loop-again Inv-loop μ-loop
 loop-again c =
     let l = c .before .before .before .loop in
-    let later = before-later (c .before .before .before .before .args .marks .now) (l .at) (c .before .before .loop-test .taken) (c .if1 .left) in
-    omega (arith, l .inv)
+    let marks = c .before .before .before .before .args .marks .now in
+    omega (arith, l .inv, ap length (before-later marks (l .at) (c .before .before .loop-test .taken) (c .if1 .left)))
 
 returns-2 : tie.Need-returns-2 Inv-loop μ-loop
 returns-2 c =
     let l = c .before .loop in
-    omega (arith, l .inv, before-past (c .before .before .args .marks .now) (l .at) (c .loop-test .left))
+    omega (arith, l .inv, ap length (before-past (c .before .before .args .marks .now) (l .at) (c .loop-test .left)))
 
 pub end-of-need-spec : {M : Type 1} → statement M
 end-of-need-spec =
