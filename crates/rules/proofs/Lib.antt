@@ -26,4 +26,5 @@ pub mod DiagramSizes
 pub mod Reached
 pub mod PathSets
 pub mod Paths
+pub mod Drawings
 pub mod SmallTable

@@ -4,7 +4,7 @@ use mathlib.Core.List.{List, [], _∷_}
 use Prim.Native.Nat.{ℕ, zero, suc, _+_, _≤_, _<_}
 use native.Mathlib.Numerals.{add-one}
 use native.Mathlib.Omega.{arith}
-use lib.ListN.{length, getD, set, take}
+use lib.ListN.{length, getD, set, take, drop}
 use Rattle.rules.specs.Lists.{written}
 
 module _ {A : Type 0} where
@@ -48,3 +48,13 @@ module _ {A : Type 0} where
   getD-written (x ∷ new) [] k d h l = absurd (omega arith)
   getD-written (x ∷ new) (y ∷ old) zero d h l = refl
   getD-written (x ∷ new) (y ∷ old) (suc k) d h l = getD-written new old k d (omega arith) (omega arith)
+
+  -- a list that is another from a place on was written over the places before
+  pub written-back : (count : ℕ) (old new : List A) → length new ≡ length old → drop count new ≡ drop count old
+      → new ≡ written (take count new) old
+  unfolding written
+  written-back zero old new e same = same
+  written-back (suc count) [] [] e same = refl
+  written-back (suc count) [] (x ∷ new) e same = absurd (omega arith)
+  written-back (suc count) (y ∷ old) [] e same = absurd (omega arith)
+  written-back (suc count) (y ∷ old) (x ∷ new) e same = ap (λ (s : List A). x ∷ s) (written-back count old new (omega arith) same)

@@ -10,7 +10,8 @@ pub mod Plans
 pub mod Conditions
 pub mod Diagrams
 pub mod Paths
-pub mod Verdicts
 pub mod Refusals
+pub mod Drawings
+pub mod Verdicts
 pub mod Demands
 pub mod SmallTable

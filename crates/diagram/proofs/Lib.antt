@@ -1,0 +1,8 @@
+-- The laws that the proofs of diagram share.
+pub mod Slices
+pub mod Building
+pub mod Drawings
+pub mod Sides
+pub mod CountedPaths
+pub mod ListedPaths
+pub mod Listings
