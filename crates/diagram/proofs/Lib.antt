@@ -1,7 +1,9 @@
 -- The laws that the proofs of diagram share.
+pub mod Promises
 pub mod Slices
 pub mod Building
 pub mod Drawings
+pub mod DrawnNodes
 pub mod Sides
 pub mod CountedPaths
 pub mod ListedPaths

@@ -4,3 +4,4 @@ pub mod Loading
 pub mod Records
 pub mod LaidRows
 pub mod RowNeeds
+pub mod Known

@@ -27,30 +27,6 @@ use Rattle.job.proofs.RowNeeds.{row-need}
 pub not-loaded : (q : Numbers) (split : List ℕ) (l : Loaded) → l ≡ loaded q → l .fit ≡ false → judged q split ≡ unfitJob
 not-loaded q split l e f = judged-unfit q split (unfit-none q (loaded-unfit q l e f))
 
--- the job of numbers that were loaded
-pub record Known (q : Numbers) (l : Loaded) : Type 0 where
-  pub job : Job
-  pub known : jobOf q ≡ some job
-  pub columns : l .job .columns ≡ q .columns
-  pub many : length (job .needs) ≡ l .job .needs
-  pub few : l .job .needs ≤ 8
-  pub stand : StandFor (rowsOf (rows (q .marks))) (job .needs)
-
-pub is-loaded : (q : Numbers) (l : Loaded) → l ≡ loaded q → l .fit ≡ true → Known q l
-unfolding jobWith
-is-loaded q l e f =
-    let fit = loaded-fit q l e f in
-    let j = fit-job q (fit .0) in
-    let many : length (j .0 .needs) ≡ l .job .needs = j .1 .asManyNeeds ∙ sym (ap (λ (job : Held). job .needs) (fit .1)) in
-    record {
-      job = j .0;
-      known = j .1 .same;
-      columns = ap (λ (job : Held). job .columns) (fit .1);
-      many = many;
-      few = subst (λ (count : ℕ). count ≤ 8) many (j .1 .fewNeeds);
-      stand = row-need q (j .0) (j .1 .same);
-    }
-
 -- ---- what the searches tell
 
 -- a search with the job's number of columns is one with the number given

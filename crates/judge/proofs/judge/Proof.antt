@@ -9,7 +9,8 @@ use Rattle.rules.specs.Numbers.{Numbers, setUnfit}
 use Rattle.rules.specs.Verdicts.{firstForbidden, firstSharing, firstUnmet}
 use Rattle.job.specs.Findings.{placeOf}
 use Rattle.judge.specs.Answers.{placesOf}
-use Rattle.judge.proofs.Judging.{Known, is-loaded, not-loaded, same-columns, answer-improper, answer-forbids, answer-shares, answer-unmet, answer-right}
+use Rattle.job.proofs.Known.{Known, is-loaded}
+use Rattle.judge.proofs.Judging.{not-loaded, same-columns, answer-improper, answer-forbids, answer-shares, answer-unmet, answer-right}
 use borrow.Author.Needs.{needs}
 use Rattle.judge.proofs.judge.Statement.{statement}
 use Rattle.judge.proofs.judge.Tie as tie
