@@ -2,4 +2,6 @@
 pub mod Promises
 pub mod Slices
 pub mod Building
+pub mod Buckets
+pub mod Growing
 pub mod Listing

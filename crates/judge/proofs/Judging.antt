@@ -1,26 +1,21 @@
 -- What the searches of the judge find, one after the other, is the answer for the numbers. Assumes nothing.
-use mathlib.Core.Path.{_≡_, sym, ap, subst, _∙_}
-use mathlib.Core.Bool.{true, false, not}
+use mathlib.Core.Path.{_≡_, sym, ap, _∙_}
+use mathlib.Core.Bool.{false, not}
 use mathlib.Core.List.{List}
 use mathlib.Core.Option.{Option, none, some}
-use Prim.Native.Nat.{ℕ, _≤_}
-use lib.ListN.{length}
+use Prim.Native.Nat.{ℕ}
 use Rattle.rules.specs.Lists.{firstWhere}
-use Rattle.rules.specs.Marks.{rows}
 use Rattle.rules.specs.Jobs.{Job}
 use Rattle.rules.specs.Numbers.{Numbers, setUnfit, jobOf}
 use Rattle.rules.specs.Splits.{proper}
 use Rattle.rules.specs.Verdicts.{unfitJob, improper, forbids, shares, unmet, right, Places, firstImproper, firstForbidden, firstSharing, firstUnmet, judged}
 use Rattle.rules.proofs.Searches.{first-same}
-use Rattle.rules.proofs.Numbers.{unfit-none, fit-job, job-fit}
+use Rattle.rules.proofs.Numbers.{unfit-none, job-fit}
 use Rattle.rules.proofs.Verdicts.{judged-job, judged-unfit}
 use Rattle.rules.proofs.FirstFaults.{says-improper, says-forbids, says-shares, says-unmet, says-right, unfit-improper}
-use Rattle.job.specs.Records.{jobWith, loaded}
-use Rattle.job.specs.Rows.{rowsOf, StandFor}
-use Rattle.job.specs.declared.Job.{Job as Held}
+use Rattle.job.specs.Records.{loaded}
 use Rattle.job.specs.declared.Loaded.{Loaded}
-use Rattle.job.proofs.Records.{loaded-fit, loaded-unfit}
-use Rattle.job.proofs.RowNeeds.{row-need}
+use Rattle.job.proofs.Records.{loaded-unfit}
 
 -- ---- what loading tells
 

@@ -24,6 +24,7 @@ pub mod Diagrams
 pub mod DiagramMeanings
 pub mod DiagramSizes
 pub mod Reached
+pub mod Rebuilding
 pub mod PathSets
 pub mod Paths
 pub mod Drawings

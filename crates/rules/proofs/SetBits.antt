@@ -151,7 +151,7 @@ unfolding worth
 worth-append p [] x = omega arith
 worth-append p (y ∷ xs) x = omega (arith, worth-append p xs x)
 
-worth-first : (p : ℕ → Bool) (k : ℕ) → worth p (upFrom 0 (suc k)) ≡ worth (λ j. p (suc j)) (upFrom 0 k) * 2 + cond (p 0) 1 0
+pub worth-first : (p : ℕ → Bool) (k : ℕ) → worth p (upFrom 0 (suc k)) ≡ worth (λ j. p (suc j)) (upFrom 0 k) * 2 + cond (p 0) 1 0
 unfolding worth upFrom
 worth-first p k = rw (worth-later p 0 k) (omega arith)
 

@@ -9,7 +9,6 @@ use native.Mathlib.Omega.{arith}
 use lib.ListN.{length, getD, replicate, getD-replicate}
 use Rattle.rules.specs.Lists.{upFrom}
 use Rattle.rules.specs.Sets.{worth}
-use Rattle.rules.specs.Needs.{meets}
 use Rattle.rules.specs.Jobs.{Job}
 use Rattle.rules.specs.Conditions.{condition, gain}
 use Rattle.rules.proofs.Counting.{upFrom-last}

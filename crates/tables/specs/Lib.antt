@@ -1,2 +1,3 @@
 -- What the contracts of tables cite besides the rules.
 pub mod Tables
+pub mod Mirrored

@@ -4,7 +4,8 @@ use mathlib.Core.Bool.{Bool, cond, _&&_}
 use mathlib.Core.List.{List}
 use Prim.Native.Nat.{ℕ, _+_, _-_, _*_, _^_, _<_}
 use lib.ListN.{getD, drop}
-use Rattle.rules.specs.Sets.{has}
+use Rattle.rules.specs.Lists.{upFrom}
+use Rattle.rules.specs.Sets.{has, worth}
 use Rattle.needs.specs.Lanes.{Lanes}
 
 -- how many blocks the sets of n columns are: one up to six columns, and twice as many for each column more
@@ -37,3 +38,7 @@ Adds k count words old new =
 -- the places from here on are as they were
 abbrev pub Stays : ℕ → List ℕ → List ℕ → Type 0
 Stays from old new = drop from new ≡ drop from old
+
+-- the set with its columns in the other order: of n columns, column i is there where column n-1-i was
+unfoldable pub mirror : ℕ → ℕ → ℕ
+mirror n s = worth (λ i. has (n - 1 - i) s) (upFrom 0 n)

@@ -3,6 +3,7 @@ use job::Job;
 
 mod words; // words.rt: tables of a bit for each set
 mod gained; // gained.rt: tables of a byte for each set
+mod mirrored; // mirrored.rt: a job with its columns in the other order
 
 ghost use mathlib.Core.Path.{_≡_};
 ghost use mathlib.Core.Option.{some};
@@ -12,7 +13,7 @@ ghost use Rattle.rules.specs.Jobs.{Job as Meant};
 ghost use Rattle.rules.specs.Numbers.{jobOf};
 ghost use Rattle.rules.specs.Conditions.{condition, gain};
 ghost use Rattle.job.specs.Records.{numbersIn, Sound};
-ghost use Rattle.tables.specs.Tables.{blocks, Tells, Valued, Stays};
+ghost use Rattle.tables.specs.Tables.{blocks, Tells, Valued, Stays, mirror};
 
 // The condition of a chosen need at every set of the job's columns. The index equal to the number of needs stands for "no need".
 pub fn conditions(job: Job, chosen: usize, table: &mut [u64; 1024])
@@ -38,6 +39,16 @@ pub fn conditions(job: Job, chosen: usize, table: &mut [u64; 1024])
     let all: &[u16; 32] = &forbidden;
     let places: &[u16] = all;
     words::forbid_all(&places[..sets], count, table);
+}
+
+// The condition as above, with the columns in the other order: the set at a place of the table is the mirror of the place.
+pub fn mirrored_conditions(job: Job, chosen: usize, table: &mut [u64; 1024])
+    requires { ⌜ Sound job × (chosen ≤ job .needs) ⌝ }
+    ensures told { λ _. ⌜ ((j : Meant) → jobOf (numbersIn job) ≡ some j → Tells (blocks (job .columns)) (λ place. condition j chosen (mirror (job .columns) place)) (now (table .exit))) ⌝ }
+    ensures stays { λ _. ⌜ Stays (blocks (job .columns)) (now (table .entry)) (now (table .exit)) ⌝ }
+{
+    let turned = mirrored::mirrored_job(job);
+    conditions(turned, chosen, table);
 }
 
 // Which needs every set of the job's columns meets, where it is safe: need k is bit k. The table has been 0.
