@@ -1,7 +1,8 @@
 // Random numbers: nothing stops the run, whatever is given. The counts show that every answer is reached.
-use crate::print;
 use judge::Verdict;
 use std::num::wrapping_add_usize;
+use worked::print;
+use worked::random::next;
 ghost use Prim.Native.Nat.{_<_};
 
 struct Counts {
@@ -16,13 +17,6 @@ struct Counts {
 struct Turn {
     state: u64,
     answer: Verdict,
-}
-
-// The next of a fixed row of numbers that look random (an xorshift).
-fn next(state: u64) -> u64 {
-    let a = state ^ (state << 13);
-    let b = a ^ (a >> 7);
-    b ^ (b << 17)
 }
 
 // Puts a number below the bound into every place.
@@ -154,17 +148,11 @@ fn count(turns: usize) -> Counts {
 
 pub fn run() {
     let counts = count(20000);
-    print::text(b"random numbers: unfit");
-    print::number(counts.unfit);
-    print::text(b", improper");
-    print::number(counts.improper);
-    print::text(b", forbids");
-    print::number(counts.forbids);
-    print::text(b", shares");
-    print::number(counts.shares);
-    print::text(b", unmet");
-    print::number(counts.unmet);
-    print::text(b", right");
-    print::number(counts.right);
+    print::named(b"random numbers: unfit", counts.unfit);
+    print::named(b", improper", counts.improper);
+    print::named(b", forbids", counts.forbids);
+    print::named(b", shares", counts.shares);
+    print::named(b", unmet", counts.unmet);
+    print::named(b", right", counts.right);
     print::line();
 }

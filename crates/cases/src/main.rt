@@ -4,7 +4,7 @@ mod fitness; // fitness.rt: each way in which numbers can be unfit, and the limi
 mod judging; // judging.rt: each answer of the judge
 mod published; // published.rt: the examples of the published sources
 mod tabled; // tabled.rt: the tables over all sets
-mod print; // print.rt: how an answer is written
+mod verdict; // verdict.rt: how an answer of the judge is written
 
 fn main() {
     fitness::run();

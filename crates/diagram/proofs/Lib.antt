@@ -1,10 +1,6 @@
 -- The laws that the proofs of diagram share.
 pub mod Promises
 pub mod Slices
-pub mod Buckets
-pub mod Building
-pub mod Parts
-pub mod Recursion
 pub mod Drawings
 pub mod DrawnNodes
 pub mod Sides

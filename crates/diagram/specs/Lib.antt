@@ -1,7 +1,4 @@
 -- What the contracts of diagram cite besides the rules: first the promises of the calls, then what their rooms say.
 pub mod Promises
 pub mod Slices
-pub mod Building
-pub mod Buckets
-pub mod Growing
 pub mod Listing

@@ -2,7 +2,8 @@
 ghost use mathlib.Core.Path.{_≡_};
 ghost use Prim.Native.Nat.{min};
 ghost use Rattle.rules.specs.Drawings.{nodeRoom, pathRoom};
-ghost use Rattle.diagram.specs.Slices.{nodeSlices, pathSlices};
+ghost use Rattle.growing.specs.Slices.{nodeSlices};
+ghost use Rattle.diagram.specs.Slices.{pathSlices};
 
 fn shorter(a: usize, b: usize) -> usize
     ensures { λ r. ⌜ r ≡ min a b ⌝ }

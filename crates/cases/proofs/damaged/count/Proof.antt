@@ -15,39 +15,39 @@ Inv-loop turns counts₀ state₀ i₀ counts state i = i ≤ turns
 abbrev μ-loop : tie.MeasureT-loop
 μ-loop turns counts₀ state₀ i₀ counts state i = turns - i
 
--- src/damaged.rt:133:5
+-- src/damaged.rt:136:5
 loop-holds : tie.Need-loop-holds Inv-loop μ-loop
 loop-holds c = search needs
 
--- src/damaged.rt:134:13
+-- src/damaged.rt:137:13
 noise-requires : tie.Need-noise-requires Inv-loop μ-loop
 noise-requires c κs = search needs
 
--- src/damaged.rt:136:9
+-- src/damaged.rt:139:9
 one-more-requires : tie.Need-one-more-requires Inv-loop μ-loop
 one-more-requires c κs = search needs
 
--- src/damaged.rt:137:13
+-- src/damaged.rt:140:13
 nearly-fit-requires : tie.Need-nearly-fit-requires Inv-loop μ-loop
 nearly-fit-requires c κs = search needs
 
--- src/damaged.rt:139:9
+-- src/damaged.rt:142:9
 one-more-requires-2 : tie.Need-one-more-requires-2 Inv-loop μ-loop
 one-more-requires-2 c κs = search needs
 
--- src/damaged.rt:141:9
+-- src/damaged.rt:144:9
 add-i : tie.Need-add-i Inv-loop μ-loop
 add-i c = search needs
 
--- src/damaged.rt:133:5
+-- src/damaged.rt:136:5
 loop-less : tie.Need-loop-less Inv-loop μ-loop
 loop-less c = search needs
 
--- src/damaged.rt:133:5
+-- src/damaged.rt:136:5
 loop-again : tie.Need-loop-again Inv-loop μ-loop
 loop-again c = search needs
 
--- src/damaged.rt:122:1
+-- src/damaged.rt:125:1
 returns : tie.Need-returns Inv-loop μ-loop
 returns c = search needs
 

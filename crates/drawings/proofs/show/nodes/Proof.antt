@@ -1,0 +1,125 @@
+-- `drawings::show::nodes` is safe and ends. Assumes nothing.
+use Prim.Native.Nat.{_≤_, _-_}
+use borrow.Author.Needs.{needs}
+use Rattle.drawings.proofs.show.nodes.Statement.{statement}
+use Rattle.drawings.proofs.show.nodes.Tie as tie
+use Rattle.drawings.proofs.show.nodes.Reads as reads
+use Rattle.drawings.proofs.show.nodes.Lts as lts
+use Rattle.drawings.proofs.lent.at.Reads as at-reads
+use Rattle.drawings.proofs.lent.shown.Reads as shown-reads
+use Rattle.drawings.proofs.lent.untouched.Reads as untouched-reads
+use Rattle.worked.proofs.print.named.Reads as named-reads
+use Rattle.worked.proofs.print.number.Reads as number-reads
+
+abbrev Inv-loop : tie.InvT-loop
+Inv-loop column low high shown i₀ t6 t7 i = i ≤ shown
+
+abbrev μ-loop : tie.MeasureT-loop
+μ-loop column low high shown i₀ t6 t7 i = shown - i
+
+-- src/show.rt:14:9
+shown-requires : tie.Need-shown-requires Inv-loop μ-loop
+shown-requires c κs = search needs
+
+-- src/show.rt:16:5
+loop-holds : tie.Need-loop-holds Inv-loop μ-loop
+loop-holds c = search needs
+
+-- src/show.rt:17:15
+slice-aggregate-named : tie.Need-slice-aggregate-named Inv-loop μ-loop
+slice-aggregate-named c = search needs
+
+-- src/show.rt:17:26
+at-requires : tie.Need-at-requires Inv-loop μ-loop
+at-requires c κs = search needs
+
+-- src/show.rt:17:9
+named-requires : tie.Need-named-requires Inv-loop μ-loop
+named-requires c κs = search needs
+
+-- src/show.rt:18:16
+at-requires-2 : tie.Need-at-requires-2 Inv-loop μ-loop
+at-requires-2 c κs = search needs
+
+-- src/show.rt:18:9
+number-requires : tie.Need-number-requires Inv-loop μ-loop
+number-requires c κs = search needs
+
+-- src/show.rt:19:16
+at-requires-3 : tie.Need-at-requires-3 Inv-loop μ-loop
+at-requires-3 c κs = search needs
+
+-- src/show.rt:19:9
+number-requires-2 : tie.Need-number-requires-2 Inv-loop μ-loop
+number-requires-2 c κs = search needs
+
+-- src/show.rt:20:9
+add-i : tie.Need-add-i Inv-loop μ-loop
+add-i c = search needs
+
+-- src/show.rt:16:5
+loop-less : tie.Need-loop-less Inv-loop μ-loop
+loop-less c = search needs
+
+-- src/show.rt:16:5
+loop-again : tie.Need-loop-again Inv-loop μ-loop
+loop-again c = search needs
+
+-- src/show.rt:22:11
+slice-aggregate-named-2 : tie.Need-slice-aggregate-named-2 Inv-loop μ-loop
+slice-aggregate-named-2 c = search needs
+
+-- src/show.rt:22:27
+untouched-requires : tie.Need-untouched-requires Inv-loop μ-loop
+untouched-requires c κs = search needs
+
+-- src/show.rt:22:5
+named-requires-2 : tie.Need-named-requires-2 Inv-loop μ-loop
+named-requires-2 c κs = search needs
+
+-- src/show.rt:23:12
+untouched-requires-2 : tie.Need-untouched-requires-2 Inv-loop μ-loop
+untouched-requires-2 c κs = search needs
+
+-- src/show.rt:23:5
+number-requires-3 : tie.Need-number-requires-3 Inv-loop μ-loop
+number-requires-3 c κs = search needs
+
+-- src/show.rt:24:12
+untouched-requires-3 : tie.Need-untouched-requires-3 Inv-loop μ-loop
+untouched-requires-3 c κs = search needs
+
+-- src/show.rt:24:5
+number-requires-4 : tie.Need-number-requires-4 Inv-loop μ-loop
+number-requires-4 c κs = search needs
+
+-- src/show.rt:13:1
+returns : tie.Need-returns Inv-loop μ-loop
+returns c = search needs
+
+pub nodes-spec : {M : Type 1} → statement M
+nodes-spec =
+    tie.close
+    (tie.spec
+    Inv-loop
+    μ-loop
+    shown-requires
+    loop-holds
+    slice-aggregate-named
+    at-requires
+    named-requires
+    at-requires-2
+    number-requires
+    at-requires-3
+    number-requires-2
+    add-i
+    loop-less
+    loop-again
+    slice-aggregate-named-2
+    untouched-requires
+    named-requires-2
+    untouched-requires-2
+    number-requires-3
+    untouched-requires-3
+    number-requires-4
+    returns)

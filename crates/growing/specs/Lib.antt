@@ -1,0 +1,5 @@
+-- What the contracts of growing cite besides the rules.
+pub mod Slices
+pub mod Building
+pub mod Buckets
+pub mod Growing

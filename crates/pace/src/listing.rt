@@ -1,0 +1,80 @@
+// One-paths, timed. The call draws the diagram too.
+use crate::clock;
+use crate::figures;
+use diagram::Listed;
+ghost use Prim.Native.Nat.{_<_, _≤_};
+
+pub fn time(job: &[u8], forbidden: &[u16], marks: &[u16], chosen: usize, samples: usize, calls: u64)
+    requires { ⌜ (samples ≤ 101) × (0 < calls) ⌝ }
+{
+    let mut column = [0u16; 8445];
+    let mut low = [0u16; 8445];
+    let mut high = [0u16; 8445];
+    let mut ones = [0u16; 32768];
+    let mut zeros = [0u16; 32768];
+    let listed = list(
+        forbidden,
+        marks,
+        chosen,
+        &mut column,
+        &mut low,
+        &mut high,
+        &mut ones,
+        &mut zeros,
+    );
+    let mut times = [u64::MAX; 101];
+    let mut i = 0;
+    while i < samples {
+        let tenths = sample(
+            forbidden,
+            marks,
+            chosen,
+            calls,
+            &mut column,
+            &mut low,
+            &mut high,
+            &mut ones,
+            &mut zeros,
+        );
+        figures::insert(&mut times, tenths);
+        i += 1;
+    }
+    figures::counted(b"one_paths, ", job, listed.paths, b" paths");
+    figures::best_and_median(&times, samples);
+}
+
+// The mean of so many calls, in tenths of a microsecond.
+fn sample(
+    forbidden: &[u16],
+    marks: &[u16],
+    chosen: usize,
+    calls: u64,
+    column: &mut [u16; 8445],
+    low: &mut [u16; 8445],
+    high: &mut [u16; 8445],
+    ones: &mut [u16; 32768],
+    zeros: &mut [u16; 32768],
+) -> u64
+    requires { ⌜ 0 < calls ⌝ }
+{
+    let start = clock::now();
+    let mut i = 0;
+    while i < calls {
+        list(forbidden, marks, chosen, column, low, high, ones, zeros);
+        i += 1;
+    }
+    clock::tenths_since(start, calls)
+}
+
+fn list(
+    forbidden: &[u16],
+    marks: &[u16],
+    chosen: usize,
+    column: &mut [u16; 8445],
+    low: &mut [u16; 8445],
+    high: &mut [u16; 8445],
+    ones: &mut [u16; 32768],
+    zeros: &mut [u16; 32768],
+) -> Listed {
+    diagram::one_paths(16, forbidden, marks, chosen, column, low, high, ones, zeros)
+}
