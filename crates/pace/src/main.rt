@@ -1,8 +1,7 @@
 // A benchmark, never a test: how long the calls of the diagram take. It writes to standard error, since standard output is compared.
+mod calls; // calls.rt: the two calls, timed
 mod clock; // clock.rt: the processor time used
-mod drawing; // drawing.rt: diagrams, timed
 mod figures; // figures.rt: times, sorted and written
-mod listing; // listing.rt: one-paths, timed
 
 use worked::dense;
 use worked::typical;
@@ -36,6 +35,6 @@ fn time_both(
 )
     requires { ⌜ (samples ≤ 101) × (0 < calls) ⌝ }
 {
-    drawing::time(job, forbidden, marks, chosen, samples, calls);
-    listing::time(job, forbidden, marks, chosen, samples, calls);
+    calls::time(false, job, forbidden, marks, chosen, samples, calls);
+    calls::time(true, job, forbidden, marks, chosen, samples, calls);
 }

@@ -1,10 +1,17 @@
-// One-paths, timed. The call draws the diagram too.
+// The two calls, timed: the diagram alone, or with its one-paths.
 use crate::clock;
 use crate::figures;
-use diagram::Listed;
 ghost use Prim.Native.Nat.{_<_, _≤_};
 
-pub fn time(job: &[u8], forbidden: &[u16], marks: &[u16], chosen: usize, samples: usize, calls: u64)
+pub fn time(
+    paths: bool,
+    job: &[u8],
+    forbidden: &[u16],
+    marks: &[u16],
+    chosen: usize,
+    samples: usize,
+    calls: u64,
+)
     requires { ⌜ (samples ≤ 101) × (0 < calls) ⌝ }
 {
     let mut column = [0u16; 8445];
@@ -12,7 +19,8 @@ pub fn time(job: &[u8], forbidden: &[u16], marks: &[u16], chosen: usize, samples
     let mut high = [0u16; 8445];
     let mut ones = [0u16; 32768];
     let mut zeros = [0u16; 32768];
-    let listed = list(
+    let counted = call(
+        paths,
         forbidden,
         marks,
         chosen,
@@ -26,6 +34,7 @@ pub fn time(job: &[u8], forbidden: &[u16], marks: &[u16], chosen: usize, samples
     let mut i = 0;
     while i < samples {
         let tenths = sample(
+            paths,
             forbidden,
             marks,
             chosen,
@@ -39,12 +48,13 @@ pub fn time(job: &[u8], forbidden: &[u16], marks: &[u16], chosen: usize, samples
         figures::insert(&mut times, tenths);
         i += 1;
     }
-    figures::counted(b"one_paths, ", job, listed.paths, b" paths");
+    figures::counted(paths, job, counted);
     figures::best_and_median(&times, samples);
 }
 
 // The mean of so many calls, in tenths of a microsecond.
 fn sample(
+    paths: bool,
     forbidden: &[u16],
     marks: &[u16],
     chosen: usize,
@@ -60,13 +70,25 @@ fn sample(
     let start = clock::now();
     let mut i = 0;
     while i < calls {
-        list(forbidden, marks, chosen, column, low, high, ones, zeros);
+        call(
+            paths,
+            forbidden,
+            marks,
+            chosen,
+            column,
+            low,
+            high,
+            ones,
+            zeros,
+        );
         i += 1;
     }
     clock::tenths_since(start, calls)
 }
 
-fn list(
+// How many paths there are, or how many nodes.
+fn call(
+    paths: bool,
     forbidden: &[u16],
     marks: &[u16],
     chosen: usize,
@@ -75,6 +97,21 @@ fn list(
     high: &mut [u16; 8445],
     ones: &mut [u16; 32768],
     zeros: &mut [u16; 32768],
-) -> Listed {
-    diagram::one_paths(16, forbidden, marks, chosen, column, low, high, ones, zeros)
+) -> u16 {
+    if paths {
+        let listed = diagram::one_paths(
+            16,
+            forbidden,
+            marks,
+            chosen,
+            column,
+            low,
+            high,
+            ones,
+            zeros,
+        );
+        return listed.paths;
+    }
+    let drawn = diagram::diagram(16, forbidden, marks, chosen, column, low, high);
+    drawn.count
 }
