@@ -15,6 +15,7 @@ pub mod Orders
 pub mod Rising
 pub mod Choices
 pub mod Plans
+pub mod SamePlans
 pub mod Useful
 pub mod Verdicts
 pub mod FirstFaults
@@ -28,4 +29,5 @@ pub mod Rebuilding
 pub mod PathSets
 pub mod Paths
 pub mod Drawings
+pub mod Plannings
 pub mod SmallTable

@@ -49,6 +49,11 @@ same-test false false f g = refl
 pub holds-fails : {C : Type 0} (a : Bool) → a ≡ true → a ≡ false → C
 holds-fails a p q = absurd (true≢false (sym p ∙ q))
 
+-- a test that cannot hold fails
+pub not-holds : (a : Bool) → (a ≡ true → ⊥) → a ≡ false
+not-holds true f = absurd (f refl)
+not-holds false f = refl
+
 module _ {A : Type 0} where
   -- ---- every
 

@@ -1,4 +1,5 @@
--- Laws of writing a split as rising numbers: nothing is lost or added, and what rises is written so already. Assumes nothing.
+-- Laws of writing a split as rising numbers: nothing is lost or added, what rises is written so already, and the split as it was never
+-- comes before it. Assumes nothing.
 use mathlib.Core.Path.{_≡_, refl, sym, ap, ap₂, fun-ext, _∙_}
 use mathlib.Core.Bool.{Bool, true, false, cond, _&&_, _||_}
 use mathlib.Core.List.{List, [], _∷_, List·Memᴰ, List·Memᴰ·head, List·Memᴰ·tail}
@@ -13,10 +14,11 @@ use Rattle.rules.specs.Sets.{apart, size}
 use Rattle.rules.specs.Needs.{Need, meets}
 use Rattle.rules.specs.Jobs.{Job, safe, unlinked}
 use Rattle.rules.specs.Splits.{proper, allUnlinked, met, correct}
-use Rattle.rules.specs.Plans.{putIn, rising, cost}
+use Rattle.rules.specs.Plans.{putIn, rising, cost, notAfter}
 use Rattle.rules.proofs.Lists.{and-parts, every-in}
 use Rattle.rules.proofs.Sets.{apart-sym, apart-differ}
 use Rattle.rules.proofs.Splits.{proper-means}
+use Rattle.rules.proofs.Orders.{ahead-smaller, ahead-same}
 
 -- ---- what is gathered over a list in any order is the same over the list written as rising numbers
 
@@ -183,3 +185,19 @@ correct-rises job (s ∷ split) h p u =
         let r = proper-means job s q in
         let z : s ≡ 0 = apart-differ s (omega (arith, pow-mono {i = job .columns} {j = 16} h)) (ap (apart s) e ∙ l) in
         omega arith
+
+-- ---- rising numbers come first
+
+putIn-first : (s : ℕ) (split other : List ℕ) → notAfter split other ≡ true → notAfter (putIn s split) (s ∷ other) ≡ true
+unfolding putIn
+putIn-first s [] other e = ahead-same s s [] other refl e
+putIn-first s (t ∷ split) other e = go (leb s t) refl
+  where
+    go : (b : Bool) → leb s t ≡ b → notAfter (cond b (s ∷ t ∷ split) (t ∷ putIn s split)) (s ∷ other) ≡ true
+    go true h = ahead-same s s (t ∷ split) other refl e
+    go false h = ahead-smaller t s (putIn s split) other (leb-false s t h)
+
+pub rising-first : (split : List ℕ) → notAfter (rising split) split ≡ true
+unfolding rising notAfter
+rising-first [] = refl
+rising-first (s ∷ split) = putIn-first s (rising split) split (rising-first split)

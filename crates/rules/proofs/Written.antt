@@ -42,6 +42,13 @@ module _ {A : Type 0} where
   take-written (x ∷ new) [] h = absurd (omega arith)
   take-written (x ∷ new) (y ∷ old) h = ap (λ (s : List A). x ∷ s) (take-written new old (omega arith))
 
+  -- the places after it stay
+  pub drop-written : (new old : List A) → drop (length new) (written new old) ≡ drop (length new) old
+  unfolding written
+  drop-written [] old = refl
+  drop-written (x ∷ new) [] = refl
+  drop-written (x ∷ new) (y ∷ old) = drop-written new old
+
   pub getD-written : (new old : List A) (k : ℕ) (d : A) → k < length new → k < length old → getD (written new old) k d ≡ getD new k d
   unfolding written
   getD-written [] old k d h l = absurd (omega arith)

@@ -12,6 +12,7 @@ pub mod Diagrams
 pub mod Paths
 pub mod Refusals
 pub mod Drawings
+pub mod Plannings
 pub mod Verdicts
 pub mod Demands
 pub mod SmallTable

@@ -1,0 +1,2 @@
+-- The laws that the proofs of planner share.
+pub mod Promises

@@ -1,0 +1,2 @@
+-- What the contracts of planner cite besides the rules.
+pub mod Promises
