@@ -5,7 +5,9 @@ pub mod Written
 pub mod Counting
 pub mod SetBits
 pub mod Sets
+pub mod Differences
 pub mod SetSizes
+pub mod SetColumns
 pub mod Needs
 pub mod Numbers
 pub mod Marks

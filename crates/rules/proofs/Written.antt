@@ -1,6 +1,6 @@
 -- Laws of a list written over the first places of another. Assumes nothing.
 use mathlib.Core.Path.{_≡_, refl, ap}
-use mathlib.Core.List.{List, [], _∷_}
+use mathlib.Core.List.{List, [], _∷_, _++_}
 use Prim.Native.Nat.{ℕ, zero, suc, _+_, _≤_, _<_}
 use native.Mathlib.Numerals.{add-one}
 use native.Mathlib.Omega.{arith}
@@ -25,6 +25,14 @@ module _ {A : Type 0} where
   pub written-more : (i : ℕ) (new old : List A) (d : A) → i < length new → i < length old
       → set (written (take i new) old) i (getD new i d) ≡ written (take (i + 1) new) old
   written-more i new old d h l = rw add-one (one-more i new old d h l)
+
+  -- one more after all of them
+  pub written-last : (new old : List A) (x : A) → length new < length old → set (written new old) (length new) x ≡ written (new ++ (x ∷ [])) old
+  unfolding written
+  written-last [] [] x l = absurd (omega arith)
+  written-last [] (y ∷ old) x l = refl
+  written-last (z ∷ new) [] x l = absurd (omega arith)
+  written-last (z ∷ new) (y ∷ old) x l = ap (λ (s : List A). z ∷ s) (written-last new old x (omega arith))
 
   -- what has no place is not written
   pub written-full : (i : ℕ) (new old : List A) → length old ≤ i → written (take i new) old ≡ written new old

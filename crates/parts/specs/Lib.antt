@@ -1,0 +1,2 @@
+-- What the contracts of parts cite besides the rules.
+pub mod Parts

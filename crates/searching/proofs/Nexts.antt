@@ -1,0 +1,111 @@
+-- Laws of the set that a best list goes on with, as the code finds it. Assumes nothing.
+use mathlib.Core.Path.{_≡_, sym, ap, subst, _∙_}
+use mathlib.Core.Bool.{Bool, true, false}
+use Prim.Native.Nat.{ℕ, _+_, _-_, _^_, _≤_, _<_}
+use native.Mathlib.Decide.{decLt}
+use native.Mathlib.Omega.{arith}
+use lib.Bits.{bitAnd}
+use borrow.Author.Tests.{eq-eqb, ne-eqb}
+use Rattle.rules.specs.Sets.{contains, apart, size, without}
+use Rattle.rules.proofs.Lists.{holds-fails}
+use Rattle.rules.proofs.Sets.{apart-bits}
+use Rattle.rules.proofs.SetSizes.{size-mono}
+use Rattle.rules.proofs.Differences.{contains-without}
+use Rattle.parts.specs.Parts.{Inside, Leaned, Tabled}
+use Rattle.searching.specs.Serving.{Servable, Decides}
+use Rattle.searching.specs.Searching.{ServableFrom, leftAfter, Next, SomeNext, FirstNext}
+use Rattle.searching.specs.declared.serve.Task.{Task}
+use Rattle.searching.proofs.Serving.{leaned-part, gain-serves, LeanList, lean-serves}
+use Rattle.searching.proofs.Trying.{refused, denied, bounded-part}
+
+-- ---- both tables serve alike
+
+module _ (gain lean : ℕ → ℕ) (most free unmet cost : ℕ) (leaned : Leaned gain lean free) where
+  pub gain-servable : Servable lean size most free unmet cost → Servable gain size most free unmet cost
+  gain-servable v =
+      record { split = v .split; few = v .few; cheap = v .cheap; serves = gain-serves gain lean (v .split) free unmet leaned (v .serves) }
+
+  pub lean-servable : Servable gain size most free unmet cost → Servable lean size most free unmet cost
+  lean-servable v =
+      let l = lean-serves gain lean size (λ s t i. size-mono s t (i .small) (i .within)) (v .split) free unmet leaned (v .serves) in
+      record { split = l .list; few = omega (arith, l .many, v .few); cheap = omega (arith, l .dear, v .cheap); serves = l .serves }
+
+pub tabled-part : (gain lean possible : ℕ → ℕ) (free part : ℕ) → contains free part ≡ true → Tabled gain lean possible free
+    → Tabled gain lean possible part
+tabled-part gain lean possible free part c t =
+    record { leaned = leaned-part gain lean free part c (t .leaned); bounded = bounded-part lean possible free part c (t .bounded) }
+
+-- ---- whether a set is the next
+
+module _ (gain : ℕ → ℕ) (task : Task) (s : ℕ) where
+  pub meets-nothing : task .unmet < 2 ^ 16 → bitAnd (gain s) (task .unmet) ≡ 0 → Decides false (Next gain task s)
+  meets-nothing b e =
+      refused (Next gain task s) λ n.
+      holds-fails (apart (gain s) (task .unmet)) (apart-bits (gain s) (task .unmet) b ∙ eq-eqb (bitAnd (gain s) (task .unmet)) 0 e) (n .useful)
+
+  pub not-free : contains (task .free .bits) s ≡ false → Decides false (Next gain task s)
+  not-free e = refused (Next gain task s) (λ n. holds-fails (contains (task .free .bits) s) (n .inside .within) e)
+
+  pub too-dear : task .cost < size s → Decides false (Next gain task s)
+  too-dear l = refused (Next gain task s) (λ n. omega (arith, n .payable))
+
+  pub goes-on : (lean possible : ℕ → ℕ) → Tabled gain lean possible (task .free .bits) → task .unmet < 2 ^ 16
+      → (bitAnd (gain s) (task .unmet) ≡ 0 → ⊥) → Inside (task .free .bits) s → size s ≤ task .cost → (rest : Task)
+      → rest ≡ leftAfter task s (gain s) → (can : Bool) → Decides can (ServableFrom lean rest) → Decides can (Next gain task s)
+  goes-on lean possible tabled b some inside payable rest l can d =
+      record {
+        sound = λ e. record {
+          inside = inside;
+          useful = useful;
+          payable = payable;
+          rest = gain-servable gain lean (task .extracts - 1) free unmet cost leaned (subst (λ (r : Task). ServableFrom lean r) l (d .sound e));
+        };
+        complete = λ n.
+            d .complete (subst (λ (r : Task). ServableFrom lean r) (sym l) (lean-servable gain lean (task .extracts - 1) free unmet cost leaned (n .rest)));
+      }
+    where
+      free : ℕ
+      free = without (task .free .bits) s
+
+      unmet : ℕ
+      unmet = without (task .unmet) (gain s)
+
+      cost : ℕ
+      cost = task .cost - size s
+
+      leaned : Leaned gain lean free
+      leaned = leaned-part gain lean (task .free .bits) free (contains-without (task .free .bits) s) (tabled .leaned)
+
+      useful : apart (gain s) (task .unmet) ≡ false
+      useful = apart-bits (gain s) (task .unmet) b ∙ ne-eqb (bitAnd (gain s) (task .unmet)) 0 some
+
+-- ---- the first from a number on
+
+module _ (gain : ℕ → ℕ) (task : Task) (from : ℕ) where
+  -- the search has come to a number and found none from where it began
+  pub record Passed (number : ℕ) : Type 0 where
+    pub later : from ≤ number
+    pub near : number ≤ 65536
+    pub none : (t : ℕ) → from ≤ t → t < number → Next gain task t → ⊥
+
+  pub passed-none : SomeNext gain task from → Passed from
+  passed-none m =
+      record { later = omega arith; near = omega (arith, m .later, m .next .inside .small); none = λ t l h n. absurd (omega arith) }
+
+  pub passed-one : (number : ℕ) → Passed number → number < 65536 → (test : Bool) → Decides test (Next gain task number) → test ≡ false
+      → Passed (number + 1)
+  passed-one number p l test d e =
+      record { later = omega (arith, p .later); near = omega arith; none = λ t h k n. go t h k n (decLt t number) }
+    where
+      go : (t : ℕ) → from ≤ t → t < number + 1 → Next gain task t → Dec (t < number) → ⊥
+      go t h k n (yes m) = p .none t h m n
+      go t h k n (no m) =
+          let same : t ≡ number = omega arith in
+          denied (Next gain task number) test d e (subst (λ (x : ℕ). Next gain task x) same n)
+
+  pub passed-all : SomeNext gain task from → (number : ℕ) → Passed number → 65536 ≤ number → FirstNext gain task from number
+  passed-all m number p l = absurd (p .none (m .set) (m .later) (omega (arith, m .next .inside .small)) (m .next))
+
+  pub found-next : (number : ℕ) → Passed number → (test : Bool) → Decides test (Next gain task number) → test ≡ true
+      → FirstNext gain task from number
+  found-next number p test d e = record { next = d .sound e; later = p .later; none-before = p .none }

@@ -1,0 +1,3 @@
+-- What the contracts of searching cite besides the rules.
+pub mod Serving
+pub mod Searching

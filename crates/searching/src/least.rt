@@ -1,0 +1,69 @@
+// The least number of sets that meet the needs, and the least cost of so many.
+use crate::serve::Task;
+use crate::serve::{self};
+use columns::ColumnSet;
+ghost use Prim.Native.Nat.{_≤_};
+ghost use Rattle.rules.specs.Sets.{size};
+ghost use Rattle.searching.specs.Serving.{Servable};
+ghost use Rattle.parts.specs.Parts.{inTable, Bounded};
+ghost use Rattle.searching.specs.Searching.{Fewest, Cheapest};
+
+// The least number of sets, each more being tried in turn; one more than there are needs if so many don't serve.
+pub fn fewest(
+    lean: &[u8; 65536],
+    possible: &[u8; 65536],
+    counts: &[u32; 8],
+    needs: u16,
+    free: ColumnSet,
+    unmet: u8,
+) -> u16
+    requires { ⌜ (needs ≤ 8) × Bounded (inTable (now lean)) (inTable (now possible)) (free .bits) ⌝ }
+    ensures { λ r. ⌜ Fewest (inTable (now (lean .entry))) needs (free .bits) unmet r ⌝ }
+{
+    let cost = serve::price(free);
+    let mut extracts = 0;
+    while extracts <= needs {
+        let task = Task {
+            extracts,
+            free,
+            unmet,
+            cost,
+        };
+        if serve::can(lean, possible, counts, task) {
+            return extracts;
+        }
+        extracts += 1;
+    }
+    extracts
+}
+
+// The least cost of so many sets, by halving: it lies from `low` to `high`.
+pub fn cheapest(
+    lean: &[u8; 65536],
+    possible: &[u8; 65536],
+    counts: &[u32; 8],
+    extracts: u16,
+    free: ColumnSet,
+    unmet: u8,
+) -> u32
+    requires { ⌜ Bounded (inTable (now lean)) (inTable (now possible)) (free .bits) × Servable (inTable (now lean)) size extracts (free .bits) unmet (size (free .bits)) ⌝ }
+    ensures { λ r. ⌜ Cheapest (inTable (now (lean .entry))) extracts (free .bits) unmet r ⌝ }
+{
+    let mut low = 0;
+    let mut high = serve::price(free);
+    while low < high {
+        let middle = (low + high) / 2;
+        let task = Task {
+            extracts,
+            free,
+            unmet,
+            cost: middle,
+        };
+        if serve::can(lean, possible, counts, task) {
+            high = middle;
+        } else {
+            low = middle + 1;
+        }
+    }
+    high
+}

@@ -1,0 +1,42 @@
+// The best list of sets that meet all needs: the fewest sets, then the fewest columns, then the smallest numbers. Which needs a set meets is said
+// by a table; nothing here looks at a job.
+use columns::ColumnSet;
+use serve::Task;
+
+mod rarest; // rarest.rt: which need is tried first
+mod serve; // serve.rt: whether so many sets can meet the needs at such a cost
+mod least; // least.rt: the least number of sets, and the least cost
+mod taking; // taking.rt: the sets of the best list, one after the other
+
+ghost use mathlib.Core.Path.{_≡_};
+ghost use Prim.Native.Nat.{_≤_};
+ghost use lib.ListN.{length};
+ghost use Rattle.rules.specs.Sets.{full};
+ghost use Rattle.parts.specs.Parts.{inTable};
+ghost use Rattle.searching.specs.Searching.{Searched};
+
+// Writes the best list over the first places and answers how many sets it has; one more than there are needs if no list meets them all.
+pub fn best(gains: &[u8; 65536], columns: u16, needs: u16, extracts: &mut [u16]) -> u16
+    requires { ⌜ (columns ≤ 16) × (needs ≤ 8) × (needs ≤ length (now extracts)) × (inTable (now gains) 0 ≡ 0) ⌝ }
+    ensures { λ r. ⌜ Searched (inTable (now (gains .entry))) (full columns) (full needs) needs r (now (extracts .entry)) (now (extracts .exit)) ⌝ }
+{
+    let mut lean = [0u8; 65536];
+    let mut possible = [0u8; 65536];
+    parts::fill(gains, columns, &mut lean, &mut possible);
+    let counts = rarest::counts(&lean, columns);
+    let free = ColumnSet::full(columns);
+    let unmet = ((1u16 << needs) - 1) as u8;
+    let count = least::fewest(&lean, &possible, &counts, needs, free, unmet);
+    if needs < count {
+        return count;
+    }
+    let cost = least::cheapest(&lean, &possible, &counts, count, free, unmet);
+    let task = Task {
+        extracts: count,
+        free,
+        unmet,
+        cost,
+    };
+    taking::take(gains, &lean, &possible, &counts, task, extracts);
+    count
+}
