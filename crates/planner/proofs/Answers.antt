@@ -1,5 +1,5 @@
 -- What the call for the planner's split gives in each of its ways. Assumes nothing.
-use mathlib.Core.Path.{_≡_, refl, sym, ap, subst, _∙_}
+use mathlib.Core.Path.{_≡_, sym, subst, _∙_}
 use mathlib.Core.Bool.{true, false}
 use mathlib.Core.List.{List}
 use mathlib.Core.Option.{none, some}
@@ -13,7 +13,7 @@ use Rattle.rules.specs.Sets.{full}
 use Rattle.rules.specs.Jobs.{Job}
 use Rattle.rules.specs.Numbers.{Numbers, jobOf}
 use Rattle.rules.specs.Conditions.{gain}
-use Rattle.rules.specs.Plans.{Planned as IsPlanned, plan}
+use Rattle.rules.specs.Plans.{plan}
 use Rattle.rules.specs.Refusals.{numbersUnfit, sliceTooShort, noCorrectSplit}
 use Rattle.rules.specs.Plannings.{planRoom, refused, planned, planning, extractsAfter}
 use Rattle.rules.proofs.Numbers.{job-fit}
@@ -27,7 +27,7 @@ use Rattle.tables.specs.Tables.{blocks, Valued}
 use Rattle.tables.proofs.Blocks.{sets-within}
 use Rattle.tables.proofs.JobTables.{few-columns}
 use Rattle.parts.specs.Parts.{inTable}
-use Rattle.searching.specs.Searching.{Found, Searched}
+use Rattle.searching.specs.Searching.{Searched}
 use Rattle.planner.specs.Promises.{Plans}
 use Rattle.planner.proofs.Gains.{gains-columns}
 use Rattle.planner.proofs.BestSplits.{first-planned, none-correct}

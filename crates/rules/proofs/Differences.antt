@@ -1,18 +1,16 @@
 -- Laws of what is left of a set when another is taken away, and of going down through the sets within a set. Assumes nothing.
 use mathlib.Core.Path.{_≡_, refl, sym, ap, _∙_}
-use mathlib.Core.Logic.{_⊎_, inl, inr}
 use mathlib.Core.Bool.{Bool, true, false, not, _&&_}
-use Prim.Native.Nat.{ℕ, zero, suc, _+_, _-_, _*_, _/_, _%_, _^_, _≤_, _<_, min}
-use native.Mathlib.Nat.{pow-suc, lt-of-le-of-lt}
+use Prim.Native.Nat.{ℕ, zero, suc, _-_, _/_, _%_, _^_, _≤_, _<_}
+use native.Mathlib.Nat.{pow-suc}
 use native.Mathlib.Decide.{decLt}
 use native.Mathlib.Omega.{arith}
-use lib.Dec.{eqb}
-use lib.Bits.{bitAnd, and-step, and-le-l, and-le-r}
+use lib.Bits.{bitAnd, and-step, and-le-l}
 use borrow.Author.Tests.{eqb-true, eq-eqb, not-true}
-use Rattle.rules.specs.Sets.{has, contains, apart, size, without}
+use Rattle.rules.specs.Sets.{has, contains, apart, without}
 use Rattle.rules.proofs.Lists.{and-parts, and-both, holds-fails}
-use Rattle.rules.proofs.SetBits.{has-and, has-empty, has-later, sets-equal}
-use Rattle.rules.proofs.Sets.{contains-column, contains-has, has-contains, contains-and, contains-le, contains-trans, apart-column, has-apart, has-without, without-below}
+use Rattle.rules.proofs.SetBits.{has-and, has-later, sets-equal}
+use Rattle.rules.proofs.Sets.{contains-column, contains-has, has-contains, contains-le, apart-column, has-apart, has-without, without-below}
 
 -- ---- a column of what is left
 
@@ -118,7 +116,8 @@ module _ where
       go further (yes o) =
           let half : (s - 1) / 2 ≡ s / 2 = omega arith in
           let last : (s - 1) % 2 ≡ 0 = omega arith in
-          let later : bitAnd ((s - 1) / 2) (free / 2) ≡ s / 2 = ap (λ (x : ℕ). bitAnd x (free / 2)) half ∙ whole n (free / 2) (s / 2) small (halves free s w) in
+          let later : bitAnd ((s - 1) / 2) (free / 2) ≡ s / 2 =
+          ap (λ (x : ℕ). bitAnd x (free / 2)) half ∙ whole n (free / 2) (s / 2) small (halves free s w) in
           rw (and-step (s - 1) free) (omega arith)
       go further (no o) =
           let half : (s - 1) / 2 ≡ s / 2 - 1 = omega arith in

@@ -1,9 +1,9 @@
 -- Laws of the best list: each of its sets is the smallest that a best list can go on with, and none below the one before need be tried. Assumes
 -- nothing.
-use mathlib.Core.Path.{_≡_, refl, sym, ap, subst, _∙_}
+use mathlib.Core.Path.{_≡_, refl, sym, ap, subst}
 use mathlib.Core.Bool.{Bool, true, false}
 use mathlib.Core.List.{List, [], _∷_}
-use Prim.Native.Nat.{ℕ, zero, suc, _+_, _-_, _^_, _≤_, _<_}
+use Prim.Native.Nat.{ℕ, suc, _+_, _-_, _^_, _≤_, _<_}
 use native.Mathlib.Decide.{decLt}
 use native.Mathlib.Omega.{arith}
 use lib.ListN.{length}
@@ -13,9 +13,8 @@ use Rattle.rules.proofs.Lists.{holds-fails}
 use Rattle.rules.proofs.Orders.{ahead-smaller, ahead-same}
 use Rattle.rules.proofs.Sets.{contains-refl, apart-part}
 use Rattle.rules.proofs.Differences.{contains-without, left-swap, left-apart, left-whole}
-use Rattle.parts.specs.Parts.{Inside}
 use Rattle.parts.proofs.LeanSets.{inside-rest}
-use Rattle.searching.specs.Serving.{Serves, total, Servable, Least, First, Completes}
+use Rattle.searching.specs.Serving.{Serves, total, Least, First, Completes}
 use Rattle.searching.proofs.Serving.{inside-after, serves-wider}
 
 module _ (gain price : ℕ → ℕ) where
@@ -133,4 +132,5 @@ module _ (gain price : ℕ → ℕ) where
             let same : t ≡ s = omega arith in
             let useful : apart (gain s) (without unmet (gain s)) ≡ false =
             subst (λ (x : ℕ). apart (gain x) (without unmet (gain s)) ≡ false) same (c .useful) in
-            holds-fails (apart (gain s) (without unmet (gain s))) (left-apart unmet (gain s) (without unmet (gain s)) (contains-refl (without unmet (gain s)))) useful
+            holds-fails (apart (gain s) (without unmet (gain s)))
+            (left-apart unmet (gain s) (without unmet (gain s)) (contains-refl (without unmet (gain s)))) useful

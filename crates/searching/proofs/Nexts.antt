@@ -1,5 +1,5 @@
 -- Laws of the set that a best list goes on with, as the code finds it. Assumes nothing.
-use mathlib.Core.Path.{_≡_, sym, ap, subst, _∙_}
+use mathlib.Core.Path.{_≡_, sym, subst, _∙_}
 use mathlib.Core.Bool.{Bool, true, false}
 use Prim.Native.Nat.{ℕ, _+_, _-_, _^_, _≤_, _<_}
 use native.Mathlib.Decide.{decLt}
@@ -15,7 +15,7 @@ use Rattle.parts.specs.Parts.{Inside, Leaned, Tabled}
 use Rattle.searching.specs.Serving.{Servable, Decides}
 use Rattle.searching.specs.Searching.{ServableFrom, leftAfter, Next, SomeNext, FirstNext}
 use Rattle.searching.specs.declared.serve.Task.{Task}
-use Rattle.searching.proofs.Serving.{leaned-part, gain-serves, LeanList, lean-serves}
+use Rattle.searching.proofs.Serving.{leaned-part, gain-serves, lean-serves}
 use Rattle.searching.proofs.Trying.{refused, denied, bounded-part}
 
 -- ---- both tables serve alike

@@ -1,14 +1,13 @@
 -- Laws of what at most so many sets at most at such a cost can serve: with nothing unmet always, with no set left never, else exactly if some set
 -- that meets a wanted need leaves what one set fewer can serve. Assumes nothing.
 use mathlib.Core.Path.{_≡_, refl, sym, ap, subst, _∙_}
-use mathlib.Core.Logic.{_⊎_, inl, inr}
+use mathlib.Core.Logic.{inl, inr}
 use mathlib.Core.Bool.{Bool, true, false}
 use mathlib.Core.List.{List, [], _∷_}
-use Prim.Native.Nat.{ℕ, zero, suc, _+_, _-_, _^_, _≤_, _<_}
-use native.Mathlib.Nat.{lt-of-le-of-lt}
+use Prim.Native.Nat.{ℕ, zero, suc, _-_, _^_, _≤_, _<_}
 use native.Mathlib.Decide.{decLt}
 use native.Mathlib.Omega.{arith}
-use lib.Bits.{bitAnd, and-le-l}
+use lib.Bits.{bitAnd}
 use lib.ListN.{length}
 use lib.Pow.{pow-pos}
 use Rattle.rules.specs.Sets.{has, contains, without}
@@ -107,7 +106,8 @@ module _ (gain price : ℕ → ℕ) where
           o .set,
           record {
             inside = o .inside;
-            meets = has-contains (gain (o .set)) wanted (λ i b e. subst (λ (k : ℕ). has k (gain (o .set)) ≡ true) (sym (has-only need i (sym (ap (has i) w) ∙ e))) (o .meets));
+            meets = has-contains (gain (o .set)) wanted λ i b e.
+                subst (λ (k : ℕ). has k (gain (o .set)) ≡ true) (sym (has-only need i (sym (ap (has i) w) ∙ e))) (o .meets);
             payable = omega (arith, o .dear, v .cheap);
             rest = record {
               split = o .others;

@@ -5,14 +5,14 @@ use mathlib.Core.List.{List, [], _∷_}
 use Prim.Native.Nat.{ℕ, suc, _+_, _-_, _^_, _≤_, _<_}
 use native.Mathlib.Omega.{arith}
 use lib.ListN.{length}
-use Rattle.rules.specs.Sets.{has, contains, apart, size, without}
+use Rattle.rules.specs.Sets.{has, contains, without}
 use Rattle.rules.proofs.Lists.{holds-fails}
 use Rattle.rules.proofs.SetBits.{has-empty}
-use Rattle.rules.proofs.Sets.{contains-trans, contains-refl, apart-sym, without-below}
-use Rattle.rules.proofs.Differences.{contains-without, left-swap, more-left, less-taken, left-apart, apart-left, left-whole, within-empty, has-left}
+use Rattle.rules.proofs.Sets.{contains-trans, apart-sym, without-below}
+use Rattle.rules.proofs.Differences.{contains-without, left-swap, more-left, less-taken, left-apart, apart-left, within-empty, has-left}
 use Rattle.parts.specs.Parts.{Inside, Leaned}
 use Rattle.parts.proofs.LeanSets.{inside-rest}
-use Rattle.searching.specs.Serving.{Serves, total, Servable, Completes}
+use Rattle.searching.specs.Serving.{Serves, total}
 
 -- ---- sets that can be taken
 
@@ -62,7 +62,9 @@ module _ (gain : ℕ → ℕ) where
       → TakenOut price free unmet need split
   unfolding Serves total
   take-out price [] free unmet need l h e = holds-fails (has need unmet) h (ap (has need) e ∙ has-empty need)
-  take-out price (s ∷ split) free unmet need l h e = go (has need (gain s)) refl (λ n. take-out price split (without free s) (without unmet (gain s)) need l (has-left unmet (gain s) need l h n) (e .1))
+  take-out price (s ∷ split) free unmet need l h e =
+      go (has need (gain s)) refl λ n.
+      take-out price split (without free s) (without unmet (gain s)) need l (has-left unmet (gain s) need l h n) (e .1)
     where
       go : (b : Bool) → has need (gain s) ≡ b → (has need (gain s) ≡ false → TakenOut price (without free s) (without unmet (gain s)) need split)
           → TakenOut price free unmet need (s ∷ split)
@@ -95,7 +97,8 @@ module _ (gain lean : ℕ → ℕ) where
   unfolding Serves
   gain-serves [] free unmet l e = e
   gain-serves (s ∷ split) free unmet l e =
-      let rest = gain-serves split (without free s) (without unmet (lean s)) (leaned-part gain lean free (without free s) (contains-without free s) l) (e .1) in (
+      let part = leaned-part gain lean free (without free s) (contains-without free s) l in
+      let rest = gain-serves split (without free s) (without unmet (lean s)) part (e .1) in (
         e .0,
         serves-fewer gain split (without free s) (without unmet (lean s)) (without unmet (gain s)) (without-below unmet (gain s))
             (less-taken unmet (gain s) (lean s) (l .no-more s (e .0))) rest,
@@ -114,7 +117,8 @@ module _ (gain lean : ℕ → ℕ) where
   lean-serves price mono (s ∷ split) free unmet l e =
       let part = l .as-much s (e .0) in
       let t : ℕ = part .0 in
-      let rest = lean-serves price mono split (without free s) (without unmet (gain s)) (leaned-part gain lean free (without free s) (contains-without free s) l) (e .1) in
+      let left = leaned-part gain lean free (without free s) (contains-without free s) l in
+      let rest = lean-serves price mono split (without free s) (without unmet (gain s)) left (e .1) in
       record {
         list = t ∷ rest .list;
         serves = (

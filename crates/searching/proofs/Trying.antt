@@ -1,5 +1,5 @@
 -- Laws of trying the sets of the free columns one after the other: what is known after each, and what the answer then is. Assumes nothing.
-use mathlib.Core.Path.{_≡_, refl, sym, ap, subst, _∙_}
+use mathlib.Core.Path.{_≡_, refl, sym, subst}
 use mathlib.Core.Bool.{Bool, true, false, _&&_}
 use Prim.Native.Nat.{ℕ, suc, _-_, _^_, _≤_, _<_}
 use native.Mathlib.Nat.{lt-of-le-of-lt}
@@ -16,7 +16,8 @@ use Rattle.searching.specs.Serving.{Servable, Decides}
 use Rattle.searching.specs.Searching.{ServableFrom, leftAfter, Wanted}
 use Rattle.searching.specs.declared.serve.Task.{Task}
 use Rattle.searching.proofs.Serving.{inside-wider}
-use Rattle.searching.proofs.Servables.{nothing-unmet, no-set-left, within-possible, Suits, suits-served, NoneAbove, none-above-all, none-above-next, none-serves}
+use Rattle.searching.proofs.Servables.{nothing-unmet, no-set-left, within-possible}
+use Rattle.searching.proofs.Servables.{Suits, suits-served, none-above-all, none-above-next, none-serves}
 
 pub refused : (P : Type 0) → (P → ⊥) → Decides false P
 refused P n = record { sound = λ e. holds-fails false e refl; complete = λ p. absurd (n p) }
@@ -110,15 +111,24 @@ module _ (lean : ℕ → ℕ) (task : Task) (wanted : ℕ) where
   some-left : (task .extracts ≡ 0 → ⊥) → suc (task .extracts - 1) ≡ task .extracts
   some-left left = omega (arith, left)
 
-  pub found-one : (task .extracts ≡ 0 → ⊥) → (s : ℕ) → Inside (task .free .bits) s → (contains (lean s) wanted && leb (size s) (task .cost)) ≡ true → (rest : Task) → rest ≡ leftAfter task s (lean s) → (found : Bool) → Decides found (ServableFrom lean rest) → found ≡ true → Decides true (ServableFrom lean task)
+  pub found-one : (task .extracts ≡ 0 → ⊥) → (s : ℕ) → Inside (task .free .bits) s
+      → (contains (lean s) wanted && leb (size s) (task .cost)) ≡ true → (rest : Task) → rest ≡ leftAfter task s (lean s)
+      → (found : Bool) → Decides found (ServableFrom lean rest) → found ≡ true → Decides true (ServableFrom lean task)
   found-one left s i e rest l found d f =
       let p = and-parts (contains (lean s) wanted) (leb (size s) (task .cost)) e in
-      let w : Will s = record { inside = i; meets = p .0; payable = leb-true (size s) (task .cost) (p .1); rest = subst (λ (r : Task). ServableFrom lean r) l (d .sound f) } in
+      let w : Will s =
+      record {
+        inside = i;
+        meets = p .0;
+        payable = leb-true (size s) (task .cost) (p .1);
+        rest = subst (λ (r : Task). ServableFrom lean r) l (d .sound f);
+      } in
       granted (ServableFrom lean task)
       (subst (λ (most : ℕ). Servable lean size most (task .free .bits) (task .unmet) (task .cost)) (some-left left)
       (suits-served lean size (task .extracts - 1) (task .free .bits) (task .unmet) (task .cost) wanted s w))
 
-  pub found-none : (task .unmet ≡ 0 → ⊥) → (task .extracts ≡ 0 → ⊥) → lean 0 ≡ 0 → wanted < 2 ^ 16 → Wanted (task .extracts) (task .unmet) wanted → Tried 0 → Decides false (ServableFrom lean task)
+  pub found-none : (task .unmet ≡ 0 → ⊥) → (task .extracts ≡ 0 → ⊥) → lean 0 ≡ 0 → wanted < 2 ^ 16 → Wanted (task .extracts) (task .unmet) wanted
+      → Tried 0 → Decides false (ServableFrom lean task)
   found-none some left empty b w t =
       refused (ServableFrom lean task) λ v.
       none-serves lean size (task .extracts - 1) (task .free .bits) (task .unmet) (task .cost) wanted empty some b

@@ -7,7 +7,6 @@ use Prim.Native.Nat.{ℕ, _+_, _-_, _^_, _≤_, _<_}
 use lib.ListN.{length}
 use Rattle.rules.specs.Lists.{written}
 use Rattle.rules.specs.Sets.{has, size, without}
-use Rattle.columns.specs.declared.ColumnSet.{ColumnSet}
 use Rattle.searching.specs.Serving.{Serves, Servable, Least, First, Completes}
 use Rattle.searching.specs.declared.serve.Task.{Task}
 

@@ -3,7 +3,6 @@
 use crate::serve::Task;
 use crate::serve::{self};
 use columns::ColumnSet;
-ghost use mathlib.Core.Path.{_≡_};
 ghost use Prim.Native.Nat.{_≤_, _<_};
 ghost use lib.ListN.{length};
 ghost use Rattle.searching.specs.Serving.{Decides};

@@ -7,12 +7,6 @@ use Rattle.planner.proofs.Answers.{plans-not-fit, plans-no-room, few, f
 use borrow.Author.Needs.{needs}
 use Rattle.planner.proofs.plan.Statement.{statement}
 use Rattle.planner.proofs.plan.Tie as tie
-use Rattle.planner.proofs.plan.Reads as reads
-use Rattle.planner.proofs.plan.Lts as lts
-use Rattle.job.proofs.load.Reads as load-reads
-use Rattle.planner.proofs.not_planned.Reads as not-planned-reads
-use Rattle.searching.proofs.best.Reads as best-reads
-use Rattle.tables.proofs.gains.Reads as gains-reads
 
 load-requires : tie.Need-load-requires
 load-requires c κs = search needs

@@ -8,14 +8,6 @@ use Rattle.searching.proofs.WholeSearch.{all-columns, all-needs, needs-
 use borrow.Author.Needs.{needs}
 use Rattle.searching.proofs.best.Statement.{statement}
 use Rattle.searching.proofs.best.Tie as tie
-use Rattle.searching.proofs.best.Reads as reads
-use Rattle.searching.proofs.best.Lts as lts
-use Rattle.columns.proofs.ColumnSet.full.Reads as full-reads
-use Rattle.parts.proofs.fill.Reads as fill-reads
-use Rattle.searching.proofs.least.cheapest.Reads as cheapest-reads
-use Rattle.searching.proofs.least.fewest.Reads as fewest-reads
-use Rattle.searching.proofs.rarest.counts.Reads as counts-reads
-use Rattle.searching.proofs.taking.take.Reads as take-reads
 
 fill-requires : tie.Need-fill-requires
 fill-requires c κs = search needs

@@ -11,10 +11,6 @@ use Rattle.searching.proofs.Trying.{denied}
 use borrow.Author.Needs.{needs}
 use Rattle.searching.proofs.least.cheapest.Statement.{statement}
 use Rattle.searching.proofs.least.cheapest.Tie as tie
-use Rattle.searching.proofs.least.cheapest.Reads as reads
-use Rattle.searching.proofs.least.cheapest.Lts as lts
-use Rattle.searching.proofs.serve.can.Reads as can-reads
-use Rattle.searching.proofs.serve.price.Reads as price-reads
 
 abbrev Inv-loop : tie.InvT-loop
 Inv-loop lean possible counts extracts free unmet low₀ high₀ low high =

@@ -10,10 +10,6 @@ use Rattle.searching.proofs.Trying.{denied}
 use borrow.Author.Needs.{needs}
 use Rattle.searching.proofs.least.fewest.Statement.{statement}
 use Rattle.searching.proofs.least.fewest.Tie as tie
-use Rattle.searching.proofs.least.fewest.Reads as reads
-use Rattle.searching.proofs.least.fewest.Lts as lts
-use Rattle.searching.proofs.serve.can.Reads as can-reads
-use Rattle.searching.proofs.serve.price.Reads as price-reads
 
 abbrev Inv-loop : tie.InvT-loop
 Inv-loop lean possible counts needs free unmet cost extracts₀ extracts =

@@ -5,10 +5,6 @@ use native.Mathlib.Omega.{arith}
 use borrow.Author.Needs.{needs}
 use Rattle.searching.proofs.serve.after.Statement.{statement}
 use Rattle.searching.proofs.serve.after.Tie as tie
-use Rattle.searching.proofs.serve.after.Reads as reads
-use Rattle.searching.proofs.serve.after.Lts as lts
-use Rattle.columns.proofs.ColumnSet.without.Reads as without-reads
-use Rattle.searching.proofs.serve.price.Reads as price-reads
 
 sub-t4 : tie.Need-sub-t4
 sub-t4 c = search needs

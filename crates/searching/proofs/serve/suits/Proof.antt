@@ -7,9 +7,6 @@ use native.Mathlib.Omega.{arith}
 use borrow.Author.Needs.{needs}
 use Rattle.searching.proofs.serve.suits.Statement.{statement}
 use Rattle.searching.proofs.serve.suits.Tie as tie
-use Rattle.searching.proofs.serve.suits.Reads as reads
-use Rattle.searching.proofs.serve.suits.Lts as lts
-use Rattle.searching.proofs.serve.price.Reads as price-reads
 
 cast-if1 : tie.Need-cast-if1
 cast-if1 c = search needs

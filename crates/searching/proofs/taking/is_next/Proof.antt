@@ -12,12 +12,6 @@ use Rattle.searching.proofs.Nexts.{meets-nothing, not-free, too-dear, g
 use borrow.Author.Needs.{needs}
 use Rattle.searching.proofs.taking.is_next.Statement.{statement}
 use Rattle.searching.proofs.taking.is_next.Tie as tie
-use Rattle.searching.proofs.taking.is_next.Reads as reads
-use Rattle.searching.proofs.taking.is_next.Lts as lts
-use Rattle.columns.proofs.ColumnSet.contains.Reads as contains-reads
-use Rattle.searching.proofs.serve.after.Reads as after-reads
-use Rattle.searching.proofs.serve.can.Reads as can-reads
-use Rattle.searching.proofs.serve.price.Reads as price-reads
 
 cast-gained : tie.Need-cast-gained
 cast-gained c = search needs

@@ -6,9 +6,6 @@ use Rattle.searching.proofs.Nexts.{Passed, passed-none, passed-one, pas
 use borrow.Author.Needs.{needs}
 use Rattle.searching.proofs.taking.next.Statement.{statement}
 use Rattle.searching.proofs.taking.next.Tie as tie
-use Rattle.searching.proofs.taking.next.Reads as reads
-use Rattle.searching.proofs.taking.next.Lts as lts
-use Rattle.searching.proofs.taking.is_next.Reads as is-next-reads
 
 abbrev Inv-loop : tie.InvT-loop
 Inv-loop gains lean possible counts task from number₀ number = Passed (inTable gains) task from number

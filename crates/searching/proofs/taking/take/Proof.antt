@@ -10,10 +10,6 @@ use Rattle.searching.proofs.BestLists.{Begun, begun-none, begun-some, b
 use borrow.Author.Needs.{needs}
 use Rattle.searching.proofs.taking.take.Statement.{statement}
 use Rattle.searching.proofs.taking.take.Tie as tie
-use Rattle.searching.proofs.taking.take.Reads as reads
-use Rattle.searching.proofs.taking.take.Lts as lts
-use Rattle.searching.proofs.serve.after.Reads as after-reads
-use Rattle.searching.proofs.taking.next.Reads as next-reads
 
 abbrev Inv-loop : tie.InvT-loop
 Inv-loop gains lean possible counts all extracts₀ task₀ from₀ extracts task from =
