@@ -1,10 +1,16 @@
-// The two calls, timed: the diagram alone, or with its one-paths.
+// The calls, timed: the diagram alone, the diagram with its one-paths, or the planner.
 use crate::clock;
 use crate::figures;
 ghost use Prim.Native.Nat.{_<_, _≤_};
 
+pub enum Call {
+    Diagram,
+    OnePaths,
+    Plan,
+}
+
 pub fn time(
-    paths: bool,
+    which: Call,
     job: &[u8],
     forbidden: &[u16],
     marks: &[u16],
@@ -19,8 +25,8 @@ pub fn time(
     let mut high = [0u16; 8445];
     let mut ones = [0u16; 32768];
     let mut zeros = [0u16; 32768];
-    let counted = call(
-        paths,
+    let counted = answered(
+        which,
         forbidden,
         marks,
         chosen,
@@ -34,7 +40,7 @@ pub fn time(
     let mut i = 0;
     while i < samples {
         let tenths = sample(
-            paths,
+            which,
             forbidden,
             marks,
             chosen,
@@ -48,13 +54,13 @@ pub fn time(
         figures::insert(&mut times, tenths);
         i += 1;
     }
-    figures::counted(paths, job, counted);
+    figures::counted(which, job, counted);
     figures::best_and_median(&times, samples);
 }
 
 // The mean of so many calls, in tenths of a microsecond.
 fn sample(
-    paths: bool,
+    which: Call,
     forbidden: &[u16],
     marks: &[u16],
     chosen: usize,
@@ -70,8 +76,8 @@ fn sample(
     let start = clock::now();
     let mut i = 0;
     while i < calls {
-        call(
-            paths,
+        answered(
+            which,
             forbidden,
             marks,
             chosen,
@@ -86,9 +92,9 @@ fn sample(
     clock::tenths_since(start, calls)
 }
 
-// How many paths there are, or how many nodes.
-fn call(
-    paths: bool,
+// How many nodes, paths or extracts there are. The planner is lent the slice that holds the ones of the paths.
+fn answered(
+    which: Call,
     forbidden: &[u16],
     marks: &[u16],
     chosen: usize,
@@ -98,20 +104,28 @@ fn call(
     ones: &mut [u16; 32768],
     zeros: &mut [u16; 32768],
 ) -> u16 {
-    if paths {
-        let listed = diagram::one_paths(
-            16,
-            forbidden,
-            marks,
-            chosen,
-            column,
-            low,
-            high,
-            ones,
-            zeros,
-        );
-        return listed.paths;
+    match which {
+        Call::Diagram => {
+            let drawn = diagram::diagram(16, forbidden, marks, chosen, column, low, high);
+            drawn.count
+        }
+        Call::OnePaths => {
+            let listed = diagram::one_paths(
+                16,
+                forbidden,
+                marks,
+                chosen,
+                column,
+                low,
+                high,
+                ones,
+                zeros,
+            );
+            listed.paths
+        }
+        Call::Plan => {
+            let planned = planner::plan(16, forbidden, marks, ones);
+            planned.count
+        }
     }
-    let drawn = diagram::diagram(16, forbidden, marks, chosen, column, low, high);
-    drawn.count
 }

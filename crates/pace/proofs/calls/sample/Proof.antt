@@ -5,10 +5,10 @@ use Rattle.pace.proofs.calls.sample.Statement.{statement}
 use Rattle.pace.proofs.calls.sample.Tie as tie
 
 abbrev Inv-loop : tie.InvT-loop
-Inv-loop paths forbidden marks chosen calls column₀ low₀ high₀ ones₀ zeros₀ start i₀ column low high ones zeros i = i ≤ calls
+Inv-loop which forbidden marks chosen calls column₀ low₀ high₀ ones₀ zeros₀ start i₀ column low high ones zeros i = i ≤ calls
 
 abbrev μ-loop : tie.MeasureT-loop
-μ-loop paths forbidden marks chosen calls column₀ low₀ high₀ ones₀ zeros₀ start i₀ column low high ones zeros i = calls - i
+μ-loop which forbidden marks chosen calls column₀ low₀ high₀ ones₀ zeros₀ start i₀ column low high ones zeros i = calls - i
 
 now-requires : tie.Need-now-requires Inv-loop μ-loop
 now-requires c κs = search needs
@@ -16,8 +16,8 @@ now-requires c κs = search needs
 loop-holds : tie.Need-loop-holds Inv-loop μ-loop
 loop-holds c = search needs
 
-call-requires : tie.Need-call-requires Inv-loop μ-loop
-call-requires c κs = search needs
+answered-requires : tie.Need-answered-requires Inv-loop μ-loop
+answered-requires c κs = search needs
 
 add-i : tie.Need-add-i Inv-loop μ-loop
 add-i c = search needs
@@ -42,7 +42,7 @@ sample-spec =
     μ-loop
     now-requires
     loop-holds
-    call-requires
+    answered-requires
     add-i
     loop-less
     loop-again

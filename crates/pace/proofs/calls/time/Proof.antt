@@ -5,13 +5,13 @@ use Rattle.pace.proofs.calls.time.Statement.{statement}
 use Rattle.pace.proofs.calls.time.Tie as tie
 
 abbrev Inv-loop : tie.InvT-loop
-Inv-loop paths job forbidden marks chosen samples calls column₀ low₀ high₀ ones₀ zeros₀ counted times₀ i₀ column low high ones zeros times i = i ≤ samples
+Inv-loop which job forbidden marks chosen samples calls column₀ low₀ high₀ ones₀ zeros₀ counted times₀ i₀ column low high ones zeros times i = i ≤ samples
 
 abbrev μ-loop : tie.MeasureT-loop
-μ-loop paths job forbidden marks chosen samples calls column₀ low₀ high₀ ones₀ zeros₀ counted times₀ i₀ column low high ones zeros times i = samples - i
+μ-loop which job forbidden marks chosen samples calls column₀ low₀ high₀ ones₀ zeros₀ counted times₀ i₀ column low high ones zeros times i = samples - i
 
-call-requires : tie.Need-call-requires Inv-loop μ-loop
-call-requires c κs = search needs
+answered-requires : tie.Need-answered-requires Inv-loop μ-loop
+answered-requires c κs = search needs
 
 loop-holds : tie.Need-loop-holds Inv-loop μ-loop
 loop-holds c = search needs
@@ -46,7 +46,7 @@ time-spec =
     (tie.spec
     Inv-loop
     μ-loop
-    call-requires
+    answered-requires
     loop-holds
     sample-requires
     insert-requires
