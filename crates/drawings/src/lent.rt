@@ -1,6 +1,7 @@
 // Slices that are lent to a call: what they hold before it, and what they hold after.
 use std::num::wrapping_add_usize;
 use std::num::wrapping_sub_usize;
+use worked::checksum;
 
 // What every place holds before a call. No node has this number, and a path only if it sets all 16 columns alike.
 pub const BEFORE: u16 = 65535;
@@ -46,21 +47,6 @@ pub fn shown(numbers: &[u16]) -> usize {
     }
 }
 
-// The checksum after one more number: 31 times as much, and the number, within 64 bits.
-fn folded(checksum: usize, number: u16) -> usize {
-    wrapping_add_usize(wrapping_sub_usize(checksum << 5, checksum), number as usize)
-}
-
-fn checksum(start: usize, numbers: &[u16]) -> usize {
-    let mut checksum = start;
-    let mut i = 0;
-    while i < numbers.len() {
-        checksum = folded(checksum, numbers[i]);
-        i += 1;
-    }
-    checksum
-}
-
 // The checksum after every place of the slices that the one-path call takes, in its order, so that none can differ unseen.
 pub fn checksum_of_all(
     start: usize,
@@ -70,6 +56,6 @@ pub fn checksum_of_all(
     ones: &[u16],
     zeros: &[u16],
 ) -> usize {
-    let nodes = checksum(checksum(checksum(start, column), low), high);
-    checksum(checksum(nodes, ones), zeros)
+    let nodes = checksum::over(checksum::over(checksum::over(start, column), low), high);
+    checksum::over(checksum::over(nodes, ones), zeros)
 }

@@ -1,22 +1,16 @@
--- `drawings::sampled::column` answers a number below 16. Assumes nothing.
-use Prim.Native.Nat.{_<_, _%_}
+-- `worked::forming::column` answers a number below 16. Assumes nothing.
 use native.Mathlib.Nat.{mod-lt}
 use native.Mathlib.Omega.{arith}
 use borrow.Author.Needs.{needs}
-use Rattle.drawings.proofs.sampled.column.Statement.{statement}
-use Rattle.drawings.proofs.sampled.column.Tie as tie
-use Rattle.drawings.proofs.sampled.column.Reads as reads
-use Rattle.drawings.proofs.sampled.column.Lts as lts
+use Rattle.worked.proofs.forming.column.Statement.{statement}
+use Rattle.worked.proofs.forming.column.Tie as tie
 
--- src/sampled.rt:128:6
 rem-result : tie.Need-rem-result
 rem-result c = search needs
 
--- src/sampled.rt:128:5
 cast-result : tie.Need-cast-result
 cast-result c = search (needs, mod-lt (c .args .random) (c .pre .0))
 
--- src/sampled.rt:124:1
 returns : tie.Need-returns
 returns c = omega (arith, mod-lt (c .args .random) (c .pre .0))
 

@@ -1,15 +1,11 @@
--- `drawings::sampled::form_sets` is safe and ends. Assumes nothing.
+-- `worked::forming::form_sets` is safe and ends. Assumes nothing.
 use mathlib.Core.Path.{_≡_}
 use Prim.Native.Nat.{_≤_, _-_}
 use native.Mathlib.Omega.{arith}
 use lib.ListN.{length, length-set}
 use borrow.Author.Needs.{needs}
-use Rattle.drawings.proofs.sampled.form_sets.Statement.{statement}
-use Rattle.drawings.proofs.sampled.form_sets.Tie as tie
-use Rattle.drawings.proofs.sampled.form_sets.Reads as reads
-use Rattle.drawings.proofs.sampled.form_sets.Lts as lts
-use Rattle.worked.proofs.random.next.Reads as next-reads
-use Rattle.drawings.proofs.sampled.set.Reads as set-reads
+use Rattle.worked.proofs.forming.form_sets.Statement.{statement}
+use Rattle.worked.proofs.forming.form_sets.Tie as tie
 
 abbrev Inv-loop : tie.InvT-loop
 Inv-loop sets₀ columns state now₀ i₀ sets now i = (i ≤ length sets) × (length sets ≡ length sets₀)
@@ -17,43 +13,33 @@ Inv-loop sets₀ columns state now₀ i₀ sets now i = (i ≤ length sets) × (
 abbrev μ-loop : tie.MeasureT-loop
 μ-loop sets₀ columns state now₀ i₀ sets now i = length sets - i
 
--- src/sampled.rt:107:5
 loop-holds : tie.Need-loop-holds Inv-loop μ-loop
 loop-holds c = search needs
 
--- src/sampled.rt:108:9
 next-requires : tie.Need-next-requires Inv-loop μ-loop
 next-requires c κs = search needs
 
--- src/sampled.rt:109:19
 set-requires : tie.Need-set-requires Inv-loop μ-loop
 set-requires c κs = search needs
 
--- src/sampled.rt:109:9
 mul-sets : tie.Need-mul-sets Inv-loop μ-loop
 mul-sets c = search needs
 
--- src/sampled.rt:109:9
 slice-write-sets : tie.Need-slice-write-sets Inv-loop μ-loop
 slice-write-sets c = search needs
 
--- src/sampled.rt:110:9
 add-i : tie.Need-add-i Inv-loop μ-loop
 add-i c = search needs
 
--- src/sampled.rt:107:5
 loop-less : tie.Need-loop-less Inv-loop μ-loop
 loop-less c = simp length-set (omega arith)
 
--- src/sampled.rt:107:5
 loop-again : tie.Need-loop-again Inv-loop μ-loop
 loop-again c = (simp length-set (omega arith), simp length-set (omega arith))
 
--- src/sampled.rt:102:1
 same-length : tie.Need-same-length Inv-loop μ-loop
 same-length c = search needs
 
--- src/sampled.rt:102:1
 returns : tie.Need-returns Inv-loop μ-loop
 returns c = search needs
 
