@@ -5,6 +5,7 @@ mod figures; // figures.rt: times, sorted and written
 
 use calls::Call;
 use worked::dense;
+use worked::hard;
 use worked::typical;
 ghost use Prim.Native.Nat.{_<_, _≤_};
 
@@ -13,6 +14,7 @@ fn main() {
     draw_typical(b"typical, no need: ", 5);
     draw(b"dense, need 0: ", &dense::FORBIDDEN, &dense::NEED, 0, 4);
     plan(b"typical: ", &typical::FORBIDDEN, &typical::NEEDS, 51, 4);
+    plan(b"hard: ", &hard::FORBIDDEN, &hard::NEEDS, 3, 1);
 }
 
 fn draw_typical(job: &[u8], chosen: usize) {

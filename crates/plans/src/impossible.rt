@@ -55,6 +55,7 @@ pub fn run() {
     singly();
     one_column_for_two();
     too_few_columns();
+    first_choice();
 }
 
 // No set meets the need, whatever the other needs ask.
@@ -120,5 +121,16 @@ fn too_few_columns() {
         6,
         &[3, 5, 6],
         &THREE_COLUMNS,
+    );
+}
+
+// Possible, though not at once: d goes with c and with a, so these three lie together, without b. To begin with b, c and d in one extract meets two
+// needs and leaves no d for a.
+fn first_choice() {
+    plan(
+        b"not by the first choice",
+        4,
+        &[11],
+        &[3, 2, 16, 18, 1, 18, 3, 0, 16, 18],
     );
 }

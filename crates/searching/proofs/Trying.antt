@@ -113,7 +113,7 @@ module _ (lean : ℕ → ℕ) (task : Task) (wanted : ℕ) where
 
   pub found-one : (task .extracts ≡ 0 → ⊥) → (s : ℕ) → Inside (task .free .bits) s
       → (contains (lean s) wanted && leb (size s) (task .cost)) ≡ true → (rest : Task) → rest ≡ leftAfter task s (lean s)
-      → (found : Bool) → Decides found (ServableFrom lean rest) → found ≡ true → Decides true (ServableFrom lean task)
+      → (found : Bool) → Decides found (ServableFrom lean rest) → found ≡ true → Decides found (ServableFrom lean task)
   found-one left s i e rest l found d f =
       let p = and-parts (contains (lean s) wanted) (leb (size s) (task .cost)) e in
       let w : Will s =
@@ -123,9 +123,9 @@ module _ (lean : ℕ → ℕ) (task : Task) (wanted : ℕ) where
         payable = leb-true (size s) (task .cost) (p .1);
         rest = subst (λ (r : Task). ServableFrom lean r) l (d .sound f);
       } in
-      granted (ServableFrom lean task)
+      subst (λ (b : Bool). Decides b (ServableFrom lean task)) (sym f) (granted (ServableFrom lean task)
       (subst (λ (most : ℕ). Servable lean size most (task .free .bits) (task .unmet) (task .cost)) (some-left left)
-      (suits-served lean size (task .extracts - 1) (task .free .bits) (task .unmet) (task .cost) wanted s w))
+      (suits-served lean size (task .extracts - 1) (task .free .bits) (task .unmet) (task .cost) wanted s w)))
 
   pub found-none : (task .unmet ≡ 0 → ⊥) → (task .extracts ≡ 0 → ⊥) → lean 0 ≡ 0 → wanted < 2 ^ 16 → Wanted (task .extracts) (task .unmet) wanted
       → Tried 0 → Decides false (ServableFrom lean task)

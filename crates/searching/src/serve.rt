@@ -67,10 +67,12 @@ pub fn can(lean: &[u8; 65536], possible: &[u8; 65536], counts: &[u32; 8], task: 
     let mut bits = free;
     while bits != 0 {
         let set = ColumnSet { bits };
-        if suits(lean, set, wanted, task.cost) {
+        let suited = suits(lean, set, wanted, task.cost);
+        if suited {
             let rest = after(task, set, lean[bits as usize]);
-            if can(lean, possible, counts, rest) {
-                return true;
+            let served = can(lean, possible, counts, rest);
+            if served {
+                return served;
             }
         }
         bits = (bits - 1) & free;

@@ -5,9 +5,6 @@ use lib.Seq.{length-take-le}
 use borrow.Author.Needs.{needs}
 use Rattle.drawings.proofs.drawing.draw.Statement.{statement}
 use Rattle.drawings.proofs.drawing.draw.Tie as tie
-use Rattle.drawings.proofs.drawing.draw.Reads as reads
-use Rattle.drawings.proofs.drawing.draw.Lts as lts
-use Rattle.drawings.proofs.drawing.draw_into.Reads as draw-into-reads
 
 -- src/drawing.rt:110:9
 array-borrow-prefix-column : tie.Need-array-borrow-prefix-column

@@ -4,10 +4,6 @@ use lib.ListN.{length}
 use borrow.Author.Needs.{needs}
 use Rattle.drawings.proofs.lent.untouched.Statement.{statement}
 use Rattle.drawings.proofs.lent.untouched.Tie as tie
-use Rattle.drawings.proofs.lent.untouched.Reads as reads
-use Rattle.drawings.proofs.lent.untouched.Lts as lts
-use Rattle.drawings.proofs.lent.one_if_before.Reads as one-if-before-reads
-use Rattle.std.proofs.num.wrapping_add_usize.Reads as wrapping-add-usize-reads
 
 abbrev Inv-loop : tie.InvT-loop
 Inv-loop numbers count₀ i₀ count i = i ≤ length numbers

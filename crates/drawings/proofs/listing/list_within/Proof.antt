@@ -5,9 +5,6 @@ use lib.Seq.{length-take-le}
 use borrow.Author.Needs.{needs}
 use Rattle.drawings.proofs.listing.list_within.Statement.{statement}
 use Rattle.drawings.proofs.listing.list_within.Tie as tie
-use Rattle.drawings.proofs.listing.list_within.Reads as reads
-use Rattle.drawings.proofs.listing.list_within.Lts as lts
-use Rattle.drawings.proofs.listing.list_into.Reads as list-into-reads
 
 -- src/listing.rt:136:9
 array-borrow-prefix-column : tie.Need-array-borrow-prefix-column

@@ -5,12 +5,6 @@ use lib.Seq.{length-take-le}
 use borrow.Author.Needs.{needs}
 use Rattle.drawings.proofs.sampled.one_more.Statement.{statement}
 use Rattle.drawings.proofs.sampled.one_more.Tie as tie
-use Rattle.drawings.proofs.sampled.one_more.Reads as reads
-use Rattle.drawings.proofs.sampled.one_more.Lts as lts
-use Rattle.worked.proofs.random.next.Reads as next-reads
-use Rattle.drawings.proofs.sampled.form_need.Reads as form-need-reads
-use Rattle.drawings.proofs.sampled.form_sets.Reads as form-sets-reads
-use Rattle.drawings.proofs.sampled.list.Reads as list-reads
 
 -- src/sampled.rt:50:9
 next-requires : tie.Need-next-requires

@@ -3,9 +3,6 @@ use Prim.Native.Nat.{_≤_, _-_}
 use borrow.Author.Needs.{needs}
 use Rattle.drawings.proofs.sampled.sample.Statement.{statement}
 use Rattle.drawings.proofs.sampled.sample.Tie as tie
-use Rattle.drawings.proofs.sampled.sample.Reads as reads
-use Rattle.drawings.proofs.sampled.sample.Lts as lts
-use Rattle.drawings.proofs.sampled.one_more.Reads as one-more-reads
 
 abbrev Inv-loop : tie.InvT-loop
 Inv-loop turns sums₀ i₀ sums i = i ≤ turns

@@ -3,13 +3,6 @@ use Prim.Native.Nat.{_≤_, _-_}
 use borrow.Author.Needs.{needs}
 use Rattle.drawings.proofs.show.nodes.Statement.{statement}
 use Rattle.drawings.proofs.show.nodes.Tie as tie
-use Rattle.drawings.proofs.show.nodes.Reads as reads
-use Rattle.drawings.proofs.show.nodes.Lts as lts
-use Rattle.drawings.proofs.lent.at.Reads as at-reads
-use Rattle.drawings.proofs.lent.shown.Reads as shown-reads
-use Rattle.drawings.proofs.lent.untouched.Reads as untouched-reads
-use Rattle.worked.proofs.print.named.Reads as named-reads
-use Rattle.worked.proofs.print.number.Reads as number-reads
 
 abbrev Inv-loop : tie.InvT-loop
 Inv-loop column low high shown i₀ t6 t7 i = i ≤ shown
