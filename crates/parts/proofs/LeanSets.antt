@@ -1,5 +1,6 @@
 -- Sets with a column too many: they gain as much without it, and so in the end does a part of them with none too many. Assumes nothing.
 use mathlib.Core.Path.{_≡_, refl, sym, _∙_}
+use mathlib.Core.Logic.{inl, inr}
 use mathlib.Core.Bool.{Bool, true, _&&_}
 use Prim.Native.Nat.{ℕ, zero, suc, _^_, _<_}
 use native.Mathlib.Omega.{arith}
@@ -9,8 +10,9 @@ use Rattle.rules.specs.Sets.{has, contains, without}
 use Rattle.rules.proofs.Lists.{and-parts}
 use Rattle.rules.proofs.Sets.{contains-refl, contains-trans, contains-empty, without-below}
 use Rattle.rules.proofs.Differences.{contains-without}
-use Rattle.rules.proofs.SetColumns.{without-less}
-use Rattle.parts.specs.Parts.{Inside, Leans, whole, spared}
+use Rattle.rules.proofs.SetSizes.{size-mono}
+use Rattle.rules.proofs.SetColumns.{without-less, size-less}
+use Rattle.parts.specs.Parts.{Inside, Leans, whole, spared, LeanPart}
 
 -- a set that has a column and gains the same without it may be left out
 pub column-spared : (gain : ℕ → ℕ) (s i : ℕ) (can : Bool) → i < 16 → can ≡ (has i s && eqb (gain (without s (2 ^ i))) (gain s)) → can ≡ true
@@ -39,19 +41,23 @@ inside-rest s t u inside = record { small = inside .small; within = contains-tra
 
 -- some part of the set has in the other table what the set gains
 pub part-with-all : (gain lean : ℕ → ℕ) (count s : ℕ) → ((t : ℕ) → t < count → Leans gain t (lean t)) → s < count → s < 2 ^ 16
-    → (t : ℕ) × Inside s t × (lean t ≡ gain s)
+    → LeanPart gain lean s
 part-with-all gain lean count s leans l b = upTo (suc s) s (omega arith) l b
   where
-    upTo : (n s : ℕ) → s < n → s < count → s < 2 ^ 16 → (t : ℕ) × Inside s t × (lean t ≡ gain s)
+    upTo : (n s : ℕ) → s < n → s < count → s < 2 ^ 16 → LeanPart gain lean s
     upTo zero s m l b = absurd (omega arith)
     upTo (suc n) s m l b = go (leans s l) (upTo n)
       where
-        go : Leans gain s (lean s)
-            → ((t : ℕ) → t < n → t < count → t < 2 ^ 16 → (u : ℕ) × Inside t u × (lean u ≡ gain t))
-            → (t : ℕ) × Inside s t × (lean t ≡ gain s)
-        go (whole e) before = (s, inside-own s b, e)
+        go : Leans gain s (lean s) → ((t : ℕ) → t < n → t < count → t < 2 ^ 16 → LeanPart gain lean t) → LeanPart gain lean s
+        go (whole e) before = record { part = s; inside = inside-own s b; same = e; fewer = inl refl }
         go (spared i k h same e) before =
             let rest = without s (2 ^ i) in
             let less = without-less s i b k h in
             let found = before rest (omega arith) (omega arith) (without-below s (2 ^ i)) in
-            (found .0, inside-rest s (2 ^ i) (found .0) (found .1), found .2 ∙ same)
+            let no-more = size-mono rest (found .part) (found .inside .small) (found .inside .within) in
+            record {
+              part = found .part;
+              inside = inside-rest s (2 ^ i) (found .part) (found .inside);
+              same = found .same ∙ same;
+              fewer = inr (omega (arith, no-more, size-less s i k h));
+            }

@@ -1,10 +1,11 @@
 -- Two further tables over all sets of columns: what can still be gained within a set, and which sets have no column too many.
 use mathlib.Core.Path.{_≡_}
+use mathlib.Core.Logic.{_⊎_}
 use mathlib.Core.Bool.{true}
 use mathlib.Core.List.{List}
 use Prim.Native.Nat.{ℕ, _^_, _<_}
 use lib.ListN.{getD}
-use Rattle.rules.specs.Sets.{mostColumns, has, contains, without}
+use Rattle.rules.specs.Sets.{mostColumns, has, contains, size, without}
 
 -- the set lies within another, and is a number of 16 bits
 pub record Inside (around s : ℕ) : Type 0 where
@@ -30,10 +31,17 @@ pub record Filled (gain lean possible : ℕ → ℕ) (below : ℕ) : Type 0 wher
   pub leans : (s : ℕ) → s < below → Leans gain s (lean s)
   pub bound : (around s : ℕ) → around < below → Inside around s → contains (possible around) (gain s) ≡ true
 
--- what a set within the free columns has, its part in the other table has as well; so looking at that table alone finds as much
+-- a part of the set, the set itself or one with fewer columns, has in the other table what the set gains
+pub record LeanPart (gain lean : ℕ → ℕ) (s : ℕ) : Type 0 where
+  pub part : ℕ
+  pub inside : Inside s part
+  pub same : lean part ≡ gain s
+  pub fewer : (part ≡ s) ⊎ (size part < size s)
+
+-- within the free columns the other table has no set that gains less than it says, and as much as can be had
 pub record Leaned (gain lean : ℕ → ℕ) (free : ℕ) : Type 0 where
   pub no-more : (s : ℕ) → Inside free s → contains (gain s) (lean s) ≡ true
-  pub as-much : (s : ℕ) → Inside free s → (t : ℕ) × Inside s t × (lean t ≡ gain s)
+  pub as-much : (s : ℕ) → Inside free s → LeanPart gain lean s
 
 -- whatever a set gains is possible within every set around it
 pub record Bounded (lean possible : ℕ → ℕ) (free : ℕ) : Type 0 where

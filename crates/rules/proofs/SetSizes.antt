@@ -1,7 +1,7 @@
 -- Laws of how many columns a set has. Assumes nothing.
 use mathlib.Core.Path.{_≡_, refl, sym, ap, ap₂, _∙_, fun-ext}
 use mathlib.Core.Bool.{Bool, true, false, not, cond, _&&_, _||_}
-use mathlib.Core.List.{List, _∷_}
+use mathlib.Core.List.{List, [], _∷_, List·Memᴰ, List·Memᴰ·not-nil}
 use Prim.Native.Nat.{ℕ, zero, suc, _+_, _/_, _%_, _^_, _≤_, _<_}
 use native.Mathlib.Nat.{div-one, pow-suc, mod-lt, zero-lt-suc, lt-of-le-of-lt}
 use native.Mathlib.Omega.{arith}
@@ -15,7 +15,7 @@ use Rattle.rules.specs.Sets.{has, members, contains, apart, size, full, 
 use Rattle.rules.proofs.Lists.{in-upFrom}
 use Rattle.rules.proofs.Counting.{keep-same, keep-parts}
 use Rattle.rules.proofs.SetBits.{has-and, has-later, below-most, sets-equal, full-within}
-use Rattle.rules.proofs.Sets.{contains-and, apart-column, has-union, has-without, without-below}
+use Rattle.rules.proofs.Sets.{has-member, contains-and, apart-column, has-union, has-without, without-below}
 
 -- ---- how many of a list are kept
 
@@ -54,6 +54,14 @@ size-ones s b = keep-ones 16 s b
 pub size-empty : size 0 ≡ 0
 unfolding size members keep upFrom
 size-empty = refl
+
+pub size-some : (s i : ℕ) → i < 16 → has i s ≡ true → 0 < size s
+unfolding size
+size-some s i l h = go (members s) (has-member s i l h)
+  where
+    go : (columns : List ℕ) → List·Memᴰ i columns → 0 < length columns
+    go [] m = absurd (List·Memᴰ·not-nil m)
+    go (j ∷ columns) m = omega arith
 
 pub size-le : (n s : ℕ) → n ≤ 16 → s < 2 ^ n → size s ≤ n
 size-le n s l b = rw (size-ones s (below-most n s l b)) (ones-le n s b)

@@ -10,42 +10,42 @@ use Rattle.rules.specs.Sets.{size, without}
 use Rattle.rules.specs.Plans.{notAfter}
 use Rattle.rules.proofs.Written.{written-last}
 use Rattle.rules.proofs.Differences.{contains-without}
-use Rattle.parts.specs.Parts.{Tabled}
+use Rattle.parts.specs.Parts.{Bounded}
 use Rattle.searching.specs.Serving.{Serves, total, Servable, Least, First, Completes}
 use Rattle.searching.specs.Searching.{leftAfter, Next, SomeNext, FirstNext, LeastFrom, FirstFrom, Taken}
 use Rattle.searching.specs.declared.serve.Task.{Task}
 use Rattle.searching.proofs.Servables.{no-set-left}
 use Rattle.searching.proofs.Firsts.{some-completes, least-after, first-after, none-again}
-use Rattle.searching.proofs.Nexts.{tabled-part}
+use Rattle.searching.proofs.Trying.{bounded-part}
 
 -- the first sets of the best list have been written, the others are the best list of what is left to do, and they come from a number on
-pub record Begun (gain lean possible : ℕ → ℕ) (all task : Task) (from : ℕ) (old new : List ℕ) : Type 0 where
+pub record Begun (gain possible : ℕ → ℕ) (all task : Task) (from : ℕ) (old new : List ℕ) : Type 0 where
   pub begun : List ℕ
   pub laid : new ≡ written begun old
   pub many : length begun + task .extracts ≡ all .extracts
   pub room : all .extracts ≤ length old
   pub least : LeastFrom gain task
-  pub tabled : Tabled gain lean possible (task .free .bits)
+  pub bounded : Bounded gain possible (task .free .bits)
   pub none-below : 0 < task .extracts → (t : ℕ) → t < from → Next gain task t → ⊥
   pub whole : (rest : List ℕ) → FirstFrom gain task rest → FirstFrom gain all (begun ++ rest)
 
-module _ (gain lean possible : ℕ → ℕ) (all : Task) (old : List ℕ) where
-  pub begun-none : all .extracts ≤ length old → LeastFrom gain all → Tabled gain lean possible (all .free .bits)
-      → Begun gain lean possible all all 0 old old
+module _ (gain possible : ℕ → ℕ) (all : Task) (old : List ℕ) where
+  pub begun-none : all .extracts ≤ length old → LeastFrom gain all → Bounded gain possible (all .free .bits)
+      → Begun gain possible all all 0 old old
   unfolding written
-  begun-none room least tabled =
+  begun-none room least bounded =
       record {
         begun = [];
         laid = refl;
         many = omega arith;
         room = room;
         least = least;
-        tabled = tabled;
+        bounded = bounded;
         none-below = λ some t l n. absurd (omega arith);
         whole = λ rest f. f;
       }
 
-  module _ (task : Task) (from : ℕ) (new : List ℕ) (b : Begun gain lean possible all task from old new) where
+  module _ (task : Task) (from : ℕ) (new : List ℕ) (b : Begun gain possible all task from old new) where
     pub begun-some : 0 < task .extracts → task .unmet < 2 ^ 16 → SomeNext gain task from
     begun-some some small =
         let s = some-completes gain size (task .extracts - 1) (task .free .bits) (task .unmet) (task .cost) small
@@ -60,7 +60,7 @@ module _ (gain lean possible : ℕ → ℕ) (all : Task) (old : List ℕ) where
         go s n (no l) = omega arith
 
     pub begun-more : 0 < task .extracts → task .unmet < 2 ^ 16 → (s : ℕ) → FirstNext gain task from s
-        → Begun gain lean possible all (leftAfter task s (gain s)) (s + 1) old (set new (all .extracts - task .extracts) s)
+        → Begun gain possible all (leftAfter task s (gain s)) (s + 1) old (set new (all .extracts - task .extracts) s)
     begun-more some small s f =
         record {
           begun = b .begun ++ (s ∷ []);
@@ -69,7 +69,8 @@ module _ (gain lean possible : ℕ → ℕ) (all : Task) (old : List ℕ) where
           many = omega (arith, length-append (b .begun) (s ∷ []), b .many);
           room = b .room;
           least = least-after gain size (task .extracts - 1) (task .free .bits) (task .unmet) (task .cost) small least s (f .next);
-          tabled = tabled-part gain lean possible (task .free .bits) (without (task .free .bits) s) (contains-without (task .free .bits) s) (b .tabled);
+          bounded = bounded-part gain possible (task .free .bits) (without (task .free .bits) s) (contains-without (task .free .bits) s)
+              (b .bounded);
           none-below = none-later;
           whole = λ rest g.
               subst (λ (split : List ℕ). FirstFrom gain all split) (sym (append-assoc (b .begun) (s ∷ []) rest)) (b .whole (s ∷ rest)

@@ -6,34 +6,14 @@ use native.Mathlib.Decide.{decLt}
 use native.Mathlib.Omega.{arith}
 use lib.Bits.{bitAnd}
 use borrow.Author.Tests.{eq-eqb, ne-eqb}
-use Rattle.rules.specs.Sets.{contains, apart, size, without}
+use Rattle.rules.specs.Sets.{contains, apart, size}
 use Rattle.rules.proofs.Lists.{holds-fails}
 use Rattle.rules.proofs.Sets.{apart-bits}
-use Rattle.rules.proofs.SetSizes.{size-mono}
-use Rattle.rules.proofs.Differences.{contains-without}
-use Rattle.parts.specs.Parts.{Inside, Leaned, Tabled}
-use Rattle.searching.specs.Serving.{Servable, Decides}
+use Rattle.parts.specs.Parts.{Inside}
+use Rattle.searching.specs.Serving.{Decides}
 use Rattle.searching.specs.Searching.{ServableFrom, leftAfter, Next, SomeNext, FirstNext}
 use Rattle.searching.specs.declared.serve.Task.{Task}
-use Rattle.searching.proofs.Serving.{leaned-part, gain-serves, lean-serves}
-use Rattle.searching.proofs.Trying.{refused, denied, bounded-part}
-
--- ---- both tables serve alike
-
-module _ (gain lean : ℕ → ℕ) (most free unmet cost : ℕ) (leaned : Leaned gain lean free) where
-  pub gain-servable : Servable lean size most free unmet cost → Servable gain size most free unmet cost
-  gain-servable v =
-      record { split = v .split; few = v .few; cheap = v .cheap; serves = gain-serves gain lean (v .split) free unmet leaned (v .serves) }
-
-  pub lean-servable : Servable gain size most free unmet cost → Servable lean size most free unmet cost
-  lean-servable v =
-      let l = lean-serves gain lean size (λ s t i. size-mono s t (i .small) (i .within)) (v .split) free unmet leaned (v .serves) in
-      record { split = l .list; few = omega (arith, l .many, v .few); cheap = omega (arith, l .dear, v .cheap); serves = l .serves }
-
-pub tabled-part : (gain lean possible : ℕ → ℕ) (free part : ℕ) → contains free part ≡ true → Tabled gain lean possible free
-    → Tabled gain lean possible part
-tabled-part gain lean possible free part c t =
-    record { leaned = leaned-part gain lean free part c (t .leaned); bounded = bounded-part lean possible free part c (t .bounded) }
+use Rattle.searching.proofs.Trying.{refused, denied}
 
 -- ---- whether a set is the next
 
@@ -49,35 +29,18 @@ module _ (gain : ℕ → ℕ) (task : Task) (s : ℕ) where
   pub too-dear : task .cost < size s → Decides false (Next gain task s)
   too-dear l = refused (Next gain task s) (λ n. omega (arith, n .payable))
 
-  pub goes-on : (lean possible : ℕ → ℕ) → Tabled gain lean possible (task .free .bits) → task .unmet < 2 ^ 16
-      → (bitAnd (gain s) (task .unmet) ≡ 0 → ⊥) → Inside (task .free .bits) s → size s ≤ task .cost → (rest : Task)
-      → rest ≡ leftAfter task s (gain s) → (can : Bool) → Decides can (ServableFrom lean rest) → Decides can (Next gain task s)
-  goes-on lean possible tabled b some inside payable rest l can d =
+  pub goes-on : task .unmet < 2 ^ 16 → (bitAnd (gain s) (task .unmet) ≡ 0 → ⊥) → Inside (task .free .bits) s → size s ≤ task .cost
+      → (rest : Task) → rest ≡ leftAfter task s (gain s) → (can : Bool) → Decides can (ServableFrom gain rest) → Decides can (Next gain task s)
+  goes-on b some inside payable rest l can d =
       record {
         sound = λ e. record {
           inside = inside;
-          useful = useful;
+          useful = apart-bits (gain s) (task .unmet) b ∙ ne-eqb (bitAnd (gain s) (task .unmet)) 0 some;
           payable = payable;
-          rest = gain-servable gain lean (task .extracts - 1) free unmet cost leaned (subst (λ (r : Task). ServableFrom lean r) l (d .sound e));
+          rest = subst (λ (r : Task). ServableFrom gain r) l (d .sound e);
         };
-        complete = λ n.
-            d .complete (subst (λ (r : Task). ServableFrom lean r) (sym l) (lean-servable gain lean (task .extracts - 1) free unmet cost leaned (n .rest)));
+        complete = λ n. d .complete (subst (λ (r : Task). ServableFrom gain r) (sym l) (n .rest));
       }
-    where
-      free : ℕ
-      free = without (task .free .bits) s
-
-      unmet : ℕ
-      unmet = without (task .unmet) (gain s)
-
-      cost : ℕ
-      cost = task .cost - size s
-
-      leaned : Leaned gain lean free
-      leaned = leaned-part gain lean (task .free .bits) free (contains-without (task .free .bits) s) (tabled .leaned)
-
-      useful : apart (gain s) (task .unmet) ≡ false
-      useful = apart-bits (gain s) (task .unmet) b ∙ ne-eqb (bitAnd (gain s) (task .unmet)) 0 some
 
 -- ---- the first from a number on
 

@@ -1,16 +1,17 @@
 -- Laws of sets taken one after the other, for any gain and any price. Assumes nothing.
 use mathlib.Core.Path.{_≡_, refl, sym, ap, subst, _∙_}
+use mathlib.Core.Logic.{_⊎_, inl, inr}
 use mathlib.Core.Bool.{Bool, true, false}
 use mathlib.Core.List.{List, [], _∷_}
 use Prim.Native.Nat.{ℕ, suc, _+_, _-_, _^_, _≤_, _<_}
 use native.Mathlib.Omega.{arith}
 use lib.ListN.{length}
-use Rattle.rules.specs.Sets.{has, contains, without}
+use Rattle.rules.specs.Sets.{has, contains, size, without}
 use Rattle.rules.proofs.Lists.{holds-fails}
 use Rattle.rules.proofs.SetBits.{has-empty}
 use Rattle.rules.proofs.Sets.{contains-trans, apart-sym, without-below}
 use Rattle.rules.proofs.Differences.{contains-without, left-swap, more-left, less-taken, left-apart, apart-left, within-empty, has-left}
-use Rattle.parts.specs.Parts.{Inside, Leaned}
+use Rattle.parts.specs.Parts.{Inside, LeanPart, Leaned}
 use Rattle.parts.proofs.LeanSets.{inside-rest}
 use Rattle.searching.specs.Serving.{Serves, total}
 
@@ -115,17 +116,53 @@ module _ (gain lean : ℕ → ℕ) where
   unfolding Serves total
   lean-serves price mono [] free unmet l e = record { list = []; serves = e; many = refl; dear = omega arith }
   lean-serves price mono (s ∷ split) free unmet l e =
-      let part = l .as-much s (e .0) in
-      let t : ℕ = part .0 in
+      let found = l .as-much s (e .0) in
+      let t : ℕ = found .part in
       let left = leaned-part gain lean free (without free s) (contains-without free s) l in
       let rest = lean-serves price mono split (without free s) (without unmet (gain s)) left (e .1) in
       record {
         list = t ∷ rest .list;
         serves = (
-          inside-wider s free t (e .0 .within) (part .1),
-          serves-wider lean (rest .list) (without free s) (without free t) (without unmet (lean t)) (less-taken free s t (part .1 .within))
-              (subst (λ (g : ℕ). Serves lean (without free s) (without unmet g) (rest .list)) (sym (part .2)) (rest .serves)),
+          inside-wider s free t (e .0 .within) (found .inside),
+          serves-wider lean (rest .list) (without free s) (without free t) (without unmet (lean t)) (less-taken free s t (found .inside .within))
+              (subst (λ (g : ℕ). Serves lean (without free s) (without unmet g) (rest .list)) (sym (found .same)) (rest .serves)),
         );
         many = ap suc (rest .many);
-        dear = omega (arith, rest .dear, mono s t (part .1));
+        dear = omega (arith, rest .dear, mono s t (found .inside));
       }
+
+  -- a cheapest list has no set with a column too many, so it serves by that table just as well
+  pub lean-exactly : (split : List ℕ) (free unmet : ℕ) → Leaned gain lean free
+      → ((other : List ℕ) → Serves gain free unmet other → length other ≡ length split → total size split ≤ total size other)
+      → Serves gain free unmet split → Serves lean free unmet split
+  unfolding Serves total
+  lean-exactly [] free unmet l cheap e = e
+  lean-exactly (s ∷ split) free unmet l cheap e =
+      let part = leaned-part gain lean free (without free s) (contains-without free s) l in
+      let cheaper : (other : List ℕ) → Serves gain (without free s) (without unmet (gain s)) other → length other ≡ length split
+      → total size split ≤ total size other =
+      λ other f m. omega (arith, cheap (s ∷ other) (e .0, f) (ap suc m)) in
+      let rest = lean-exactly split (without free s) (without unmet (gain s)) part cheaper (e .1) in
+      (e .0, subst (λ (g : ℕ). Serves lean (without free s) (without unmet g) split) (sym (whole (l .as-much s (e .0)))) rest)
+    where
+      whole : LeanPart gain lean s → lean s ≡ gain s
+      whole found = go (found .fewer)
+        where
+          t : ℕ
+          t = found .part
+
+          inside : Inside free t
+          inside = inside-wider s free t (e .0 .within) (found .inside)
+
+          more : contains (gain t) (gain s) ≡ true
+          more = subst (λ (g : ℕ). contains (gain t) g ≡ true) (found .same) (l .no-more t inside)
+
+          replaced : Serves gain (without free t) (without unmet (gain t)) split
+          replaced =
+              serves-wider gain split (without free s) (without free t) (without unmet (gain t)) (less-taken free s t (found .inside .within))
+              (serves-fewer gain split (without free s) (without unmet (gain s)) (without unmet (gain t)) (without-below unmet (gain t))
+              (less-taken unmet (gain t) (gain s) more) (e .1))
+
+          go : (t ≡ s) ⊎ (size t < size s) → lean s ≡ gain s
+          go (inl same) = ap lean (sym same) ∙ found .same
+          go (inr less) = absurd (omega (arith, cheap (t ∷ split) (inside, replaced) refl))

@@ -7,10 +7,11 @@ use native.Mathlib.Omega.{arith}
 use lib.ListN.{length}
 use lib.Pow.{pow-mono, pow-pos}
 use Rattle.rules.specs.Sets.{size, full}
+use Rattle.rules.proofs.SetSizes.{size-mono}
 use Rattle.parts.specs.Parts.{Leaned}
-use Rattle.searching.specs.Serving.{Serves, total, Servable, Least}
+use Rattle.searching.specs.Serving.{Serves, total, Servable, Least, First}
 use Rattle.searching.specs.Searching.{Fewest, Cheapest, Taken, Searched}
-use Rattle.searching.proofs.Nexts.{gain-servable, lean-servable}
+use Rattle.searching.proofs.Serving.{gain-serves, LeanList, lean-serves, lean-exactly}
 use Rattle.searching.proofs.Totals.{total-within}
 
 -- ---- all columns and all needs, as the code computes them
@@ -25,35 +26,68 @@ all-needs needs l = omega (arith, pow-mono {i = needs} {j = 8} l)
 pub needs-fit : (needs : ℕ) → needs ≤ 8 → (1 ≤ 1 * 2 ^ needs % 65536) × (1 * 2 ^ needs % 65536 - 1 < 256)
 needs-fit needs l = (omega (arith, pow-mono {i = needs} {j = 8} l, pow-pos needs), omega (arith, pow-mono {i = needs} {j = 8} l))
 
--- ---- what is found
+-- ---- the least number of sets, and the least cost of so many
 
-module _ (gain lean : ℕ → ℕ) (free unmet most count : ℕ) (leaned : Leaned gain lean free) (few : Fewest lean most free unmet count) where
-  served : (many cost : ℕ) (other : List ℕ) → Serves gain free unmet other → length other ≤ many → total size other ≤ cost
-      → Servable lean size many free unmet cost
-  served many cost other e l c =
-      lean-servable gain lean many free unmet cost leaned (record { split = other; few = l; cheap = c; serves = e })
-
+module _ (lean : ℕ → ℕ) (free unmet most count : ℕ) (few : Fewest lean most free unmet count) where
   -- no list has fewer sets
-  none-fewer : (other : List ℕ) → Serves gain free unmet other → count ≤ length other
+  none-fewer : (other : List ℕ) → Serves lean free unmet other → count ≤ length other
   none-fewer other e = go (decLt (length other) count)
     where
       go : Dec (length other < count) → count ≤ length other
-      go (yes l) = absurd (few .none-below (length other) l (served (length other) (size free) other e (omega arith) (total-within gain other free unmet e)))
+      go (yes l) =
+          absurd (few .none-below (length other) l
+          (record { split = other; few = omega arith; cheap = total-within lean other free unmet e; serves = e }))
       go (no l) = omega arith
 
-  pub found-least : (cost : ℕ) → Cheapest lean count free unmet cost → Least gain size count free unmet cost
+  pub found-least : (cost : ℕ) → Cheapest lean count free unmet cost → Least lean size count free unmet cost
   found-least cost cheap =
-      record {
-        servable = gain-servable gain lean count free unmet cost leaned (cheap .servable);
-        fewest = none-fewer;
-        cheapest = λ other e l. go other e l (decLt (total size other) cost);
-      }
+      record { servable = cheap .servable; fewest = none-fewer; cheapest = λ other e l. go other e l (decLt (total size other) cost) }
     where
-      go : (other : List ℕ) → Serves gain free unmet other → length other ≤ count → Dec (total size other < cost) → cost ≤ total size other
-      go other e l (yes h) = absurd (cheap .none-below (total size other) h (served count (total size other) other e l (omega arith)))
+      go : (other : List ℕ) → Serves lean free unmet other → length other ≤ count → Dec (total size other < cost) → cost ≤ total size other
+      go other e l (yes h) =
+          absurd (cheap .none-below (total size other) h (record { split = other; few = l; cheap = omega arith; serves = e }))
       go other e l (no h) = omega arith
 
-  module _ (columns needs : ℕ) (is-free : free ≡ full columns) (is-unmet : unmet ≡ full needs) where
+-- ---- what is found by the lean table is best by the table of gains too
+
+module _ (gain lean : ℕ → ℕ) (free unmet : ℕ) (leaned : Leaned gain lean free) where
+  abbrev leaner : (other : List ℕ) → Serves gain free unmet other → LeanList gain lean size free unmet other
+  leaner other e = lean-serves gain lean size (λ s t i. size-mono s t (i .small) (i .within)) other free unmet leaned e
+
+  gain-least : (count cost : ℕ) → Least lean size count free unmet cost → Least gain size count free unmet cost
+  gain-least count cost least =
+      record {
+        servable =
+            record {
+              split = v .split;
+              few = v .few;
+              cheap = v .cheap;
+              serves = gain-serves gain lean (v .split) free unmet leaned (v .serves);
+            };
+        fewest = λ other e. let o = leaner other e in omega (arith, o .many, least .fewest (o .list) (o .serves));
+        cheapest = λ other e l.
+            let o = leaner other e in
+            let many : length (o .list) ≤ count = omega (arith, o .many) in
+            omega (arith, o .dear, least .cheapest (o .list) (o .serves) many);
+      }
+    where
+      v : Servable lean size count free unmet cost
+      v = least .servable
+
+  gain-first : (count cost : ℕ) (split : List ℕ) → Least lean size count free unmet cost → First lean size count free unmet cost split
+      → First gain size count free unmet cost split
+  gain-first count cost split least f =
+      record {
+        serves = gain-serves gain lean split free unmet leaned (f .serves);
+        as-many = f .as-many;
+        as-dear = f .as-dear;
+        first = λ other e m d.
+            let cheap : (another : List ℕ) → Serves gain free unmet another → length another ≡ length other → total size other ≤ total size another =
+            λ another g n. let many : length another ≤ count = omega arith in omega (arith, gain-least count cost least .cheapest another g many) in
+            f .first other (lean-exactly gain lean other free unmet leaned cheap e) m d;
+      }
+
+  module _ (columns needs most count : ℕ) (is-free : free ≡ full columns) (is-unmet : unmet ≡ full needs) (few : Fewest lean most free unmet count) where
     whole : (old new : List ℕ) → Searched gain free unmet most count old new → Searched gain (full columns) (full needs) most count old new
     whole old new s =
         subst (λ (f : ℕ). Searched gain f (full needs) most count old new) is-free
@@ -62,15 +96,28 @@ module _ (gain lean : ℕ → ℕ) (free unmet most count : ℕ) (leaned : Leane
     pub searched-none : most < count → (old : List ℕ) → Searched gain (full columns) (full needs) most count old old
     searched-none l old =
         whole old old
-        (record { found = λ h. absurd (omega arith); none = λ h other e. omega (arith, none-fewer other e); stays = λ h. refl })
+        (record {
+          found = λ h. absurd (omega arith);
+          none = λ h other e.
+              let o = leaner other e in
+              omega (arith, o .many, none-fewer lean free unmet most count few (o .list) (o .serves));
+          stays = λ h. refl;
+        })
 
     pub searched-found : count ≤ most → (cost : ℕ) → Cheapest lean count free unmet cost → (old new : List ℕ)
-        → Taken gain (record { extracts = count; free = record { bits = free }; unmet = unmet; cost = cost }) old new
+        → Taken lean (record { extracts = count; free = record { bits = free }; unmet = unmet; cost = cost }) old new
         → Searched gain (full columns) (full needs) most count old new
     searched-found l cost cheap old new t =
+        let least = found-least lean free unmet most count few cost cheap in
         whole old new
         (record {
-          found = λ h. record { cost = cost; split = t .split; least = found-least cost cheap; first = t .first; laid = t .laid };
+          found = λ h. record {
+            cost = cost;
+            split = t .split;
+            least = gain-least count cost least;
+            first = gain-first count cost (t .split) least (t .first);
+            laid = t .laid;
+          };
           none = λ h. absurd (omega arith);
           stays = λ h. absurd (omega arith);
         })

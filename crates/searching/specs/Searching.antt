@@ -50,9 +50,11 @@ pub record FirstNext (gain : ℕ → ℕ) (task : Task) (from s : ℕ) : Type 0 
   pub later : from ≤ s
   pub none-before : (t : ℕ) → from ≤ t → t < s → Next gain task t → ⊥
 
+-- nothing less will do
 abbrev pub LeastFrom : (ℕ → ℕ) → Task → Type 0
 LeastFrom gain task = Least gain size (task .extracts) (task .free .bits) (task .unmet) (task .cost)
 
+-- the first of the lists that do
 abbrev pub FirstFrom : (ℕ → ℕ) → Task → List ℕ → Type 0
 FirstFrom gain task split = First gain size (task .extracts) (task .free .bits) (task .unmet) (task .cost) split
 

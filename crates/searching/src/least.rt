@@ -1,6 +1,6 @@
 // The least number of sets that meet the needs, and the least cost of so many.
+use crate::serve;
 use crate::serve::Task;
-use crate::serve::{self};
 use columns::ColumnSet;
 ghost use Prim.Native.Nat.{_≤_};
 ghost use Rattle.rules.specs.Sets.{size};

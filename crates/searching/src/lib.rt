@@ -37,6 +37,6 @@ pub fn best(gains: &[u8; 65536], columns: u16, needs: u16, extracts: &mut [u16])
         unmet,
         cost,
     };
-    taking::take(gains, &lean, &possible, &counts, task, extracts);
+    taking::take(&lean, &possible, &counts, task, extracts);
     count
 }

@@ -1,27 +1,26 @@
 // The sets of the best list, one after the other: each is the smallest that a best list can go on with. Since a best list rises, none below the
-// one before is tried again.
+// one before is tried again. A set with a column too many is in no best list, so the lean table has all that is needed.
+use crate::serve;
 use crate::serve::Task;
-use crate::serve::{self};
 use columns::ColumnSet;
 ghost use Prim.Native.Nat.{_≤_, _<_};
 ghost use lib.ListN.{length};
 ghost use Rattle.searching.specs.Serving.{Decides};
-ghost use Rattle.parts.specs.Parts.{inTable, Tabled};
+ghost use Rattle.parts.specs.Parts.{inTable, Bounded};
 ghost use Rattle.searching.specs.Searching.{Next, SomeNext, FirstNext, LeastFrom, Taken};
 
 // Whether the set meets an unmet need and leaves what the further sets can serve. The test of the cost stands before the search.
 fn is_next(
-    gains: &[u8; 65536],
     lean: &[u8; 65536],
     possible: &[u8; 65536],
     counts: &[u32; 8],
     task: Task,
     set: ColumnSet,
 ) -> bool
-    requires { ⌜ (0 < task .extracts) × Tabled (inTable (now gains)) (inTable (now lean)) (inTable (now possible)) (task .free .bits) ⌝ }
-    ensures { λ r. ⌜ Decides r (Next (inTable (now (gains .entry))) task (set .bits)) ⌝ }
+    requires { ⌜ (0 < task .extracts) × Bounded (inTable (now lean)) (inTable (now possible)) (task .free .bits) ⌝ }
+    ensures { λ r. ⌜ Decides r (Next (inTable (now (lean .entry))) task (set .bits)) ⌝ }
 {
-    let gained = gains[set.bits as usize];
+    let gained = lean[set.bits as usize];
     if gained & task.unmet == 0 {
         return false;
     }
@@ -35,24 +34,16 @@ fn is_next(
 }
 
 // The smallest set, from a number on, that a best list goes on with.
-fn next(
-    gains: &[u8; 65536],
-    lean: &[u8; 65536],
-    possible: &[u8; 65536],
-    counts: &[u32; 8],
-    task: Task,
-    from: u32,
-) -> u32
-    requires { ⌜ SomeNext (inTable (now gains)) task from ⌝ }
-    requires { ⌜ Tabled (inTable (now gains)) (inTable (now lean)) (inTable (now possible)) (task .free .bits) ⌝ }
-    ensures { λ r. ⌜ FirstNext (inTable (now (gains .entry))) task from r ⌝ }
+fn next(lean: &[u8; 65536], possible: &[u8; 65536], counts: &[u32; 8], task: Task, from: u32) -> u32
+    requires { ⌜ SomeNext (inTable (now lean)) task from × Bounded (inTable (now lean)) (inTable (now possible)) (task .free .bits) ⌝ }
+    ensures { λ r. ⌜ FirstNext (inTable (now (lean .entry))) task from r ⌝ }
 {
     let mut number = from;
     while number < 65536 {
         let set = ColumnSet {
             bits: number as u16,
         };
-        if is_next(gains, lean, possible, counts, task, set) {
+        if is_next(lean, possible, counts, task, set) {
             return number;
         }
         number += 1;
@@ -62,26 +53,24 @@ fn next(
 
 // Writes the sets of the best list.
 pub fn take(
-    gains: &[u8; 65536],
     lean: &[u8; 65536],
     possible: &[u8; 65536],
     counts: &[u32; 8],
     all: Task,
     extracts: &mut [u16],
 )
-    requires { ⌜ (all .extracts ≤ length (now extracts)) × LeastFrom (inTable (now gains)) all ⌝ }
-    requires { ⌜ Tabled (inTable (now gains)) (inTable (now lean)) (inTable (now possible)) (all .free .bits) ⌝ }
-    ensures { λ _. ⌜ Taken (inTable (now (gains .entry))) all (now (extracts .entry)) (now (extracts .exit)) ⌝ }
+    requires { ⌜ (all .extracts ≤ length (now extracts)) × LeastFrom (inTable (now lean)) all × Bounded (inTable (now lean)) (inTable (now possible)) (all .free .bits) ⌝ }
+    ensures { λ _. ⌜ Taken (inTable (now (lean .entry))) all (now (extracts .entry)) (now (extracts .exit)) ⌝ }
 {
     let mut task = all;
     let mut from = 0;
     while 0 < task.extracts {
-        let number = next(gains, lean, possible, counts, task, from);
+        let number = next(lean, possible, counts, task, from);
         let set = ColumnSet {
             bits: number as u16,
         };
         extracts[(all.extracts - task.extracts) as usize] = set.bits;
-        task = serve::after(task, set, gains[set.bits as usize]);
+        task = serve::after(task, set, lean[set.bits as usize]);
         from = number + 1;
     }
 }

@@ -53,7 +53,8 @@ returns c =
     let tabled : Tabled gain lean possible (full .result .bits) = subst (λ (f : ℕ). Tabled gain lean possible f) (sym all) (fill .ensures) in
     let unmet : ℕ = 1 * 2 ^ a .needs % 65536 - 1 in
     let fewest = c .before .fewest in
-    searched-none gain lean (full .result .bits) unmet (a .needs) (fewest .result) (tabled .leaned) (fewest .ensures) (a .columns) (a .needs) all (all-needs (a .needs) (s .pre .1)) (c .if1 .taken) (a .extracts .now)
+    searched-none gain lean (full .result .bits) unmet (tabled .leaned) (a .columns) (a .needs) (a .needs) (fewest .result) all (all-needs (a .needs) (s .pre .1)) (fewest .ensures) (c .if1 .taken)
+    (a .extracts .now)
 
 cheapest-requires : tie.Need-cheapest-requires
 cheapest-requires c κs =
@@ -82,7 +83,7 @@ take-requires c κs =
     let unmet : ℕ = 1 * 2 ^ a .needs % 65536 - 1 in
     let fewest = c .before .before .before .before .before .before .before .before .before .fewest in
     let cheapest = c .before .before .before .before .cheapest in
-    ((omega (arith, c .before .before .before .before .before .before .before .before .if1 .left, s .pre .2), found-least gain lean (full .result .bits) unmet (a .needs) (fewest .result) (tabled .leaned) (fewest .ensures) (cheapest .result) (cheapest .ensures)), tabled)
+    (omega (arith, c .before .before .before .before .before .before .before .before .if1 .left, s .pre .2), found-least lean (full .result .bits) unmet (a .needs) (fewest .result) (fewest .ensures) (cheapest .result) (cheapest .ensures), tabled .bounded)
 
 same-length : tie.Need-same-length
 same-length c = search needs
@@ -102,8 +103,8 @@ returns-2 c =
     let fewest = c .before .before .before .before .before .before .before .before .before .before .before .before .fewest in
     let cheapest = c .before .before .before .before .before .before .before .cheapest in
     let take = c .before .before .take in
-    searched-found gain lean (full .result .bits) unmet (a .needs) (fewest .result) (tabled .leaned) (fewest .ensures) (a .columns) (a .needs) all (all-needs (a .needs) (s .pre .1)) (c .before .before .before .before .before .before .before .before .before .before .before .if1 .left)
-    (cheapest .result) (cheapest .ensures) (a .extracts .now) (take .last .1 .1 .1 .1 .1 .0) (take .ensures)
+    searched-found gain lean (full .result .bits) unmet (tabled .leaned) (a .columns) (a .needs) (a .needs) (fewest .result) all (all-needs (a .needs) (s .pre .1)) (fewest .ensures) (c .before .before .before .before .before .before .before .before .before .before .before .if1 .left)
+    (cheapest .result) (cheapest .ensures) (a .extracts .now) (take .last .1 .1 .1 .1 .0) (take .ensures)
 
 pub best-spec : {M : Type 1} → statement M
 best-spec =

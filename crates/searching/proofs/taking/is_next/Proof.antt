@@ -22,7 +22,7 @@ element-copy-out-gained c = search needs
 returns : tie.Need-returns
 returns c =
     let s = c .before .before .before .before in
-    let gain = inTable (s .args .gains .now) in
+    let gain = inTable (s .args .lean .now) in
     let task = s .args .task in
     let set : ℕ = s .args .set .bits in
     meets-nothing gain task set (omega arith) (c .if1 .taken)
@@ -33,7 +33,7 @@ contains-requires c κs = search needs
 returns-2 : tie.Need-returns-2
 returns-2 c =
     let s = c .before .before .before .before .before .before in
-    let gain = inTable (s .args .gains .now) in
+    let gain = inTable (s .args .lean .now) in
     let task = s .args .task in
     let set : ℕ = s .args .set .bits in
     not-free gain task set (sym (c .before .contains .ensures) ∙ not-true _ (c .if2 .taken))
@@ -44,7 +44,7 @@ price-requires c κs = search needs
 returns-3 : tie.Need-returns-3
 returns-3 c =
     let s = c .before .before .before .before .before .before .before .before .before in
-    let gain = inTable (s .args .gains .now) in
+    let gain = inTable (s .args .lean .now) in
     let task = s .args .task in
     let set : ℕ = s .args .set .bits in
     too-dear gain task set (omega (arith, c .before .before .price .ensures, c .if3 .taken))
@@ -55,17 +55,21 @@ after-requires c κs = (c .before .before .before .before .before .before .befor
 can-requires : tie.Need-can-requires
 can-requires c κs =
     let s = c .before .before .before .before .before .before .before .before .before .before in
+    let free : ℕ = s .args .task .free .bits in
+    let set : ℕ = s .args .set .bits in
     subst (λ (rest : Task). Bounded (inTable (s .args .lean .now)) (inTable (s .args .possible .now)) (rest .free .bits)) (sym (c .after .ensures))
-    (bounded-part (inTable (s .args .lean .now)) (inTable (s .args .possible .now)) (s .args .task .free .bits) (without (s .args .task .free .bits) (s .args .set .bits)) (contains-without (s .args .task .free .bits) (s .args .set .bits)) (s .pre .1 .bounded))
+    (bounded-part (inTable (s .args .lean .now)) (inTable (s .args .possible .now)) free (without free set) (contains-without free set) (s .pre .1))
 
 returns-4 : tie.Need-returns-4
 returns-4 c =
     let s = c .before .before .before .before .before .before .before .before .before .before .before in
-    let gain = inTable (s .args .gains .now) in
+    let gain = inTable (s .args .lean .now) in
     let task = s .args .task in
     let set : ℕ = s .args .set .bits in
-    let inside : Inside (task .free .bits) set = record { small = omega arith; within = sym (c .before .before .before .before .before .before .contains .ensures) ∙ not-false _ (c .before .before .before .before .before .if2 .left) } in
-    goes-on gain task set (inTable (s .args .lean .now)) (inTable (s .args .possible .now)) (s .pre .1) (omega arith) (c .before .before .before .before .before .before .before .if1 .left) inside (omega (arith, c .before .before .before .before .price .ensures, c .before .before .if3 .left)) (c .before .after .result) (c .before .after .ensures) (c .can .result) (c .can .ensures)
+    let inside : Inside (task .free .bits) set =
+    record { small = omega arith; within = sym (c .before .before .before .before .before .before .contains .ensures) ∙ not-false _ (c .before .before .before .before .before .if2 .left) } in
+    goes-on gain task set (omega arith) (c .before .before .before .before .before .before .before .if1 .left) inside (omega (arith, c .before .before .before .before .price .ensures, c .before .before .if3 .left))
+    (c .before .after .result) (c .before .after .ensures) (c .can .result) (c .can .ensures)
 
 pub is-next-spec : {M : Type 1} → statement M
 is-next-spec =

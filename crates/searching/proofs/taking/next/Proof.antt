@@ -8,16 +8,16 @@ use Rattle.searching.proofs.taking.next.Statement.{statement}
 use Rattle.searching.proofs.taking.next.Tie as tie
 
 abbrev Inv-loop : tie.InvT-loop
-Inv-loop gains lean possible counts task from number₀ number = Passed (inTable gains) task from number
+Inv-loop lean possible counts task from number₀ number = Passed (inTable lean) task from number
 
 abbrev μ-loop : tie.MeasureT-loop
-μ-loop gains lean possible counts task from number₀ number = 65536 - number
+μ-loop lean possible counts task from number₀ number = 65536 - number
 
 loop-holds : tie.Need-loop-holds Inv-loop μ-loop
-loop-holds c = passed-none (inTable (c .args .gains .now)) (c .args .task) (c .args .from) (c .pre .0)
+loop-holds c = passed-none (inTable (c .args .lean .now)) (c .args .task) (c .args .from) (c .pre .0)
 
-cast-t10 : tie.Need-cast-t10 Inv-loop μ-loop
-cast-t10 c = search needs
+cast-t9 : tie.Need-cast-t9 Inv-loop μ-loop
+cast-t9 c = search needs
 
 is-next-requires : tie.Need-is-next-requires Inv-loop μ-loop
 is-next-requires c κs = (c .before .before .pre .0 .left, c .before .before .pre .1)
@@ -26,7 +26,7 @@ returns : tie.Need-returns Inv-loop μ-loop
 returns c =
     let s = c .before .before .before .before in
     let l = c .before .before .before .loop in
-    found-next (inTable (s .args .gains .now)) (s .args .task) (s .args .from) (l .number) (l .inv) (c .before .is-next .result) (c .before .is-next .ensures) (c .if1 .taken)
+    found-next (inTable (s .args .lean .now)) (s .args .task) (s .args .from) (l .number) (l .inv) (c .before .is-next .result) (c .before .is-next .ensures) (c .if1 .taken)
 
 add-number : tie.Need-add-number Inv-loop μ-loop
 add-number c = search needs
@@ -38,13 +38,13 @@ loop-again : tie.Need-loop-again Inv-loop μ-loop
 loop-again c =
     let s = c .before .before .before .before in
     let l = c .before .before .before .loop in
-    passed-one (inTable (s .args .gains .now)) (s .args .task) (s .args .from) (l .number) (l .inv) (c .before .before .loop-test .taken) (c .before .is-next .result) (c .before .is-next .ensures) (c .if1 .left)
+    passed-one (inTable (s .args .lean .now)) (s .args .task) (s .args .from) (l .number) (l .inv) (c .before .before .loop-test .taken) (c .before .is-next .result) (c .before .is-next .ensures) (c .if1 .left)
 
 returns-2 : tie.Need-returns-2 Inv-loop μ-loop
 returns-2 c =
     let s = c .before .before in
     let l = c .before .loop in
-    passed-all (inTable (s .args .gains .now)) (s .args .task) (s .args .from) (s .pre .0) (l .number) (l .inv) (omega (arith, c .loop-test))
+    passed-all (inTable (s .args .lean .now)) (s .args .task) (s .args .from) (s .pre .0) (l .number) (l .inv) (omega (arith, c .loop-test))
 
 pub next-spec : {M : Type 1} → statement M
 next-spec =
@@ -53,7 +53,7 @@ next-spec =
     Inv-loop
     μ-loop
     loop-holds
-    cast-t10
+    cast-t9
     is-next-requires
     returns
     add-number

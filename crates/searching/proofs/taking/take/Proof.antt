@@ -12,28 +12,26 @@ use Rattle.searching.proofs.taking.take.Statement.{statement}
 use Rattle.searching.proofs.taking.take.Tie as tie
 
 abbrev Inv-loop : tie.InvT-loop
-Inv-loop gains lean possible counts all extracts₀ task₀ from₀ extracts task from =
-    Begun (inTable gains) (inTable lean) (inTable possible) all task from extracts₀ extracts
+Inv-loop lean possible counts all extracts₀ task₀ from₀ extracts task from =
+    Begun (inTable lean) (inTable possible) all task from extracts₀ extracts
 
 abbrev μ-loop : tie.MeasureT-loop
-μ-loop gains lean possible counts all extracts₀ task₀ from₀ extracts task from = task .extracts
+μ-loop lean possible counts all extracts₀ task₀ from₀ extracts task from = task .extracts
 
 loop-holds : tie.Need-loop-holds Inv-loop μ-loop
 loop-holds c =
     let a = c .before .args in
-    let gain = inTable (a .gains .now) in
     let lean = inTable (a .lean .now) in
     let possible = inTable (a .possible .now) in
-    begun-none gain lean possible (a .all) (a .extracts .now) (c .before .pre .0 .0) (c .before .pre .0 .1) (c .before .pre .1)
+    begun-none lean possible (a .all) (a .extracts .now) (c .before .pre .0) (c .before .pre .1) (c .before .pre .2)
 
 next-requires : tie.Need-next-requires Inv-loop μ-loop
 next-requires c κs =
     let a = c .before .before .before .before .args in
-    let gain = inTable (a .gains .now) in
     let lean = inTable (a .lean .now) in
     let possible = inTable (a .possible .now) in
     let l = c .before .before .loop in
-    (begun-some gain lean possible (a .all) (a .extracts .now) (l .task) (l .from) (l .extracts) (l .inv) (c .if1 .taken) (omega arith), l .inv .tabled)
+    (begun-some lean possible (a .all) (a .extracts .now) (l .task) (l .from) (l .extracts) (l .inv) (c .if1 .taken) (omega arith), l .inv .bounded)
 
 cast-extracts : tie.Need-cast-extracts Inv-loop μ-loop
 cast-extracts c = omega (arith, c .next .ensures .next .inside .small)
@@ -71,13 +69,12 @@ loop-less c = subst (λ (rest : Task). rest .extracts < c .before .before .befor
 loop-again : tie.Need-loop-again Inv-loop μ-loop
 loop-again c =
     let a = c .before .before .before .before .before .before .before .before .before .before .args in
-    let gain = inTable (a .gains .now) in
     let lean = inTable (a .lean .now) in
     let possible = inTable (a .possible .now) in
     let l = c .before .before .before .before .before .before .before .before .loop in
     let number = c .before .before .before .before .before .next .result in
-    subst (λ (rest : Task). Begun gain lean possible (a .all) rest (number + 1) (a .extracts .now) (set (l .extracts) (a .all .extracts - l .task .extracts) number)) (sym (c .after .ensures))
-    (begun-more gain lean possible (a .all) (a .extracts .now) (l .task) (l .from) (l .extracts) (l .inv) (c .before .before .before .before .before .before .if1 .taken) (omega arith) number (c .before .before .before .before .before .next .ensures))
+    subst (λ (rest : Task). Begun lean possible (a .all) rest (number + 1) (a .extracts .now) (set (l .extracts) (a .all .extracts - l .task .extracts) number)) (sym (c .after .ensures))
+    (begun-more lean possible (a .all) (a .extracts .now) (l .task) (l .from) (l .extracts) (l .inv) (c .before .before .before .before .before .before .if1 .taken) (omega arith) number (c .before .before .before .before .before .next .ensures))
 
 same-length : tie.Need-same-length Inv-loop μ-loop
 same-length c = ap length (c .before .before .loop .inv .laid) ∙ length-written (c .before .before .loop .inv .begun) (c .before .before .before .before .args .extracts .now)
@@ -85,11 +82,10 @@ same-length c = ap length (c .before .before .loop .inv .laid) ∙ length-writte
 returns : tie.Need-returns Inv-loop μ-loop
 returns c =
     let a = c .before .before .before .before .args in
-    let gain = inTable (a .gains .now) in
     let lean = inTable (a .lean .now) in
     let possible = inTable (a .possible .now) in
     let l = c .before .before .loop in
-    begun-all gain lean possible (a .all) (a .extracts .now) (l .task) (l .from) (l .extracts) (l .inv) (omega (arith, c .if1 .left))
+    begun-all lean possible (a .all) (a .extracts .now) (l .task) (l .from) (l .extracts) (l .inv) (omega (arith, c .if1 .left))
 
 pub take-spec : {M : Type 1} → statement M
 take-spec =
