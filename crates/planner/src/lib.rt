@@ -1,15 +1,11 @@
 // The planner's split of a job: of all correct splits those with fewest extracts, of these those with fewest columns in all, and of these,
 // written as rising numbers, the one whose first differing number is smaller.
+use job::refusals::NO_CORRECT_SPLIT;
+use job::refusals::NUMBERS_UNFIT;
+use job::refusals::SLICE_TOO_SHORT;
 ghost use mathlib.Core.Path.{_≡_};
 ghost use Rattle.rules.specs.Plannings.{refused};
 ghost use Rattle.planner.specs.Promises.{plannedOf, Plans};
-
-// Numbers unfit.
-pub const NUMBERS_UNFIT: u16 = 7;
-// The lent slice is too short.
-pub const SLICE_TOO_SHORT: u16 = 8;
-// No correct split exists.
-pub const NO_CORRECT_SPLIT: u16 = 9;
 
 // No planner's split has more extracts: each serves a need that no other does, and a job has at most eight needs.
 pub const MOST_EXTRACTS: usize = 8;

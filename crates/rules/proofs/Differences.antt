@@ -81,51 +81,51 @@ within-empty s b c = let l = contains-le 0 s b c in omega arith
 
 -- ---- going down through the sets within a set
 
--- the next smaller one: all columns after the lowest, and below it all that there are
-module _ where
-  abbrev Within : ℕ → ℕ → Type 0
-  Within free s = (i : ℕ) → has i s ≡ true → has i free ≡ true
+-- every column of the set is one of the others, with no bound on the columns
+abbrev Within : ℕ → ℕ → Type 0
+Within free s = (i : ℕ) → has i s ≡ true → has i free ≡ true
 
-  halves : (free s : ℕ) → Within free s → Within (free / 2) (s / 2)
-  halves free s w i e = sym (has-later i free) ∙ w (suc i) (has-later i s ∙ e)
+halves : (free s : ℕ) → Within free s → Within (free / 2) (s / 2)
+halves free s w i e = sym (has-later i free) ∙ w (suc i) (has-later i s ∙ e)
 
-  odd : (free s : ℕ) → Within free s → s % 2 ≤ free % 2
-  odd free s w = go (decLt 0 (s % 2))
-    where
-      go : Dec (0 < s % 2) → s % 2 ≤ free % 2
-      go (yes l) =
-          let e : free / 2 ^ 0 % 2 ≡ 1 = eqb-true (free / 2 ^ 0 % 2) 1 (w 0 (eq-eqb (s / 2 ^ 0 % 2) 1 (omega arith))) in
-          omega arith
-      go (no l) = omega arith
+odd : (free s : ℕ) → Within free s → s % 2 ≤ free % 2
+odd free s w = go (decLt 0 (s % 2))
+  where
+    go : Dec (0 < s % 2) → s % 2 ≤ free % 2
+    go (yes l) =
+        let e : free / 2 ^ 0 % 2 ≡ 1 = eqb-true (free / 2 ^ 0 % 2) 1 (w 0 (eq-eqb (s / 2 ^ 0 % 2) 1 (omega arith))) in
+        omega arith
+    go (no l) = omega arith
 
-  whole : (n free s : ℕ) → s < 2 ^ n → Within free s → bitAnd s free ≡ s
-  whole zero free s b w = let l = and-le-l s free in omega arith
-  whole (suc n) free s b w =
-      let later = whole n (free / 2) (s / 2) (omega (arith, pow-suc 2 n)) (halves free s w) in
-      let first = odd free s w in
-      and-step s free ∙ omega arith
+whole : (n free s : ℕ) → s < 2 ^ n → Within free s → bitAnd s free ≡ s
+whole zero free s b w = let l = and-le-l s free in omega arith
+whole (suc n) free s b w =
+    let later = whole n (free / 2) (s / 2) (omega (arith, pow-suc 2 n)) (halves free s w) in
+    let first = odd free s w in
+    and-step s free ∙ omega arith
 
-  down : (n free s t : ℕ) → s < 2 ^ n → Within free s → Within free t → t < s → t ≤ bitAnd (s - 1) free
-  down zero free s t b w v l = omega arith
-  down (suc n) free s t b w v l = go (down n (free / 2) (s / 2) (t / 2) small (halves free s w) (halves free t v)) (decLt 0 (s % 2))
-    where
-      small : s / 2 < 2 ^ n
-      small = omega (arith, pow-suc 2 n)
+-- one less leaves the columns after the lowest and sets all below it; of these, the ones that there are make the next smaller set
+down : (n free s t : ℕ) → s < 2 ^ n → Within free s → Within free t → t < s → t ≤ bitAnd (s - 1) free
+down zero free s t b w v l = omega arith
+down (suc n) free s t b w v l = go (down n (free / 2) (s / 2) (t / 2) small (halves free s w) (halves free t v)) (decLt 0 (s % 2))
+  where
+    small : s / 2 < 2 ^ n
+    small = omega (arith, pow-suc 2 n)
 
-      go : (t / 2 < s / 2 → t / 2 ≤ bitAnd (s / 2 - 1) (free / 2)) → Dec (0 < s % 2) → t ≤ bitAnd (s - 1) free
-      go further (yes o) =
-          let half : (s - 1) / 2 ≡ s / 2 = omega arith in
-          let last : (s - 1) % 2 ≡ 0 = omega arith in
-          let later : bitAnd ((s - 1) / 2) (free / 2) ≡ s / 2 =
-          ap (λ (x : ℕ). bitAnd x (free / 2)) half ∙ whole n (free / 2) (s / 2) small (halves free s w) in
-          rw (and-step (s - 1) free) (omega arith)
-      go further (no o) =
-          let half : (s - 1) / 2 ≡ s / 2 - 1 = omega arith in
-          let last : (s - 1) % 2 ≡ 1 = omega arith in
-          let later : t / 2 ≤ bitAnd (s / 2 - 1) (free / 2) = further (omega arith) in
-          let again : t / 2 ≤ bitAnd ((s - 1) / 2) (free / 2) = rw half later in
-          let first = odd free t v in
-          rw (and-step (s - 1) free) (omega arith)
+    go : (t / 2 < s / 2 → t / 2 ≤ bitAnd (s / 2 - 1) (free / 2)) → Dec (0 < s % 2) → t ≤ bitAnd (s - 1) free
+    go further (yes o) =
+        let half : (s - 1) / 2 ≡ s / 2 = omega arith in
+        let last : (s - 1) % 2 ≡ 0 = omega arith in
+        let later : bitAnd ((s - 1) / 2) (free / 2) ≡ s / 2 =
+        ap (λ (x : ℕ). bitAnd x (free / 2)) half ∙ whole n (free / 2) (s / 2) small (halves free s w) in
+        rw (and-step (s - 1) free) (omega arith)
+    go further (no o) =
+        let half : (s - 1) / 2 ≡ s / 2 - 1 = omega arith in
+        let last : (s - 1) % 2 ≡ 1 = omega arith in
+        let later : t / 2 ≤ bitAnd (s / 2 - 1) (free / 2) = further (omega arith) in
+        let again : t / 2 ≤ bitAnd ((s - 1) / 2) (free / 2) = rw half later in
+        let first = odd free t v in
+        rw (and-step (s - 1) free) (omega arith)
 
 pub next-down : (free s t : ℕ) → s < 2 ^ 16 → contains free s ≡ true → t < 2 ^ 16 → contains free t ≡ true → t < s → t ≤ bitAnd (s - 1) free
 next-down free s t b c h d l = down 16 free s t b (λ i e. contains-has free s i b c e) (λ i e. contains-has free t i h d e) l

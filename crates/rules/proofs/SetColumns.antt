@@ -62,6 +62,12 @@ contains-rest s t i c e =
     other j h true o = holds-fails (has j t) h (ap (λ (k : ℕ). has k t) (has-only i j o) ∙ e)
     other j h false o = refl
 
+-- a set has fewer columns without one of them
+pub size-less : (s i : ℕ) → i < 16 → has i s ≡ true → size (without s (2 ^ i)) < size s
+size-less s i l h =
+    let own : has i (bitAnd s (2 ^ i)) ≡ true = has-and s (2 ^ i) i ∙ and-both (has i s) (has i (2 ^ i)) h (has-own i) in
+    omega (arith, size-parts s (2 ^ i), size-some (bitAnd s (2 ^ i)) i l own)
+
 -- ---- the parts of a set
 
 -- a part of a set is the set itself, or lacks one of its columns
@@ -87,9 +93,3 @@ same-or-lacks n s t m b d c = go (anyOf lacks (upFrom 0 n)) refl
         (sets-equal n t s (lt-of-le-of-lt (contains-le s t d c) b) b λ i l.
         same-test (has i t) (has i s) (contains-has s t i d c)
         (there (has i s) (has i t) (not-any-in lacks f (upFrom-in 0 n i zero-le (omega arith)))))
-
--- a set has fewer columns without one of them
-pub size-less : (s i : ℕ) → i < 16 → has i s ≡ true → size (without s (2 ^ i)) < size s
-size-less s i l h =
-    let own : has i (bitAnd s (2 ^ i)) ≡ true = has-and s (2 ^ i) i ∙ and-both (has i s) (has i (2 ^ i)) h (has-own i) in
-    omega (arith, size-parts s (2 ^ i), size-some (bitAnd s (2 ^ i)) i l own)

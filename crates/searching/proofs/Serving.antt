@@ -105,6 +105,7 @@ module _ (gain lean : ℕ → ℕ) where
             (less-taken unmet (gain s) (lean s) (l .no-more s (e .0))) rest,
       )
 
+  -- as many sets, that cost no more, from the other table
   pub record LeanList (price : ℕ → ℕ) (free unmet : ℕ) (split : List ℕ) : Type 0 where
     pub list : List ℕ
     pub serves : Serves lean free unmet list
