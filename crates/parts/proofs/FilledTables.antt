@@ -12,9 +12,14 @@ use borrow.Author.Count.{below-more}
 use Rattle.rules.specs.Sets.{contains, full}
 use Rattle.rules.proofs.SetBits.{full-within}
 use Rattle.rules.proofs.Sets.{contains-trans, contains-le}
-use Rattle.parts.specs.Parts.{Inside, inTable, Gathers, Leans, Filled, Tabled}
+use Rattle.parts.specs.Parts.{Inside, inTable, Gathers, Leans, Tabled}
 use Rattle.parts.proofs.GatheredParts.{gathers-bound}
 use Rattle.parts.proofs.LeanSets.{leans-part, leans-nothing, part-with-all}
+
+-- the sets below a number have their places in both tables
+pub record Filled (gain lean possible : ℕ → ℕ) (below : ℕ) : Type 0 where
+  pub leans : (s : ℕ) → s < below → Leans gain s (lean s)
+  pub bound : (around s : ℕ) → around < below → Inside around s → contains (possible around) (gain s) ≡ true
 
 pub filled-none : (gain lean possible : ℕ → ℕ) → Filled gain lean possible 0
 filled-none gain lean possible = record { leans = λ s l. absurd (omega arith); bound = λ around s l inside. absurd (omega arith) }

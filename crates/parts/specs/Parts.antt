@@ -26,11 +26,6 @@ pub data Leans (gain : ℕ → ℕ) (s gained : ℕ) : Type 0 where
   whole : gained ≡ gain s → Leans gain s gained
   spared : (i : ℕ) → i < mostColumns → has i s ≡ true → gain (without s (2 ^ i)) ≡ gain s → gained ≡ 0 → Leans gain s gained
 
--- the sets below a number have their places in both tables
-pub record Filled (gain lean possible : ℕ → ℕ) (below : ℕ) : Type 0 where
-  pub leans : (s : ℕ) → s < below → Leans gain s (lean s)
-  pub bound : (around s : ℕ) → around < below → Inside around s → contains (possible around) (gain s) ≡ true
-
 -- a part of the set, the set itself or one with fewer columns, has in the other table what the set gains
 pub record LeanPart (gain lean : ℕ → ℕ) (s : ℕ) : Type 0 where
   pub part : ℕ

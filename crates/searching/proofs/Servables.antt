@@ -17,6 +17,7 @@ use Rattle.rules.proofs.Sets.{contains-column, contains-le, has-contains}
 use Rattle.rules.proofs.SetColumns.{has-only}
 use Rattle.rules.proofs.Differences.{has-left, within-empty, next-down}
 use Rattle.parts.specs.Parts.{Inside, Bounded}
+use Rattle.parts.proofs.LeanSets.{inside-own}
 use Rattle.searching.specs.Serving.{Serves, total, Servable}
 use Rattle.searching.specs.Searching.{Wanted}
 use Rattle.searching.proofs.Serving.{TakenOut, take-out}
@@ -49,8 +50,7 @@ module _ (gain price : ℕ → ℕ) where
   within-possible possible most free unmet cost b bounded v =
       has-contains (possible free) unmet λ i l h.
       let o = out most free unmet cost i l h v in
-      let whole : Inside free free = record { small = b; within = has-contains free free (λ j k e. e) } in
-      contains-column (possible free) (gain (o .set)) i l (bounded .bound free (o .set) whole (o .inside)) (o .meets)
+      contains-column (possible free) (gain (o .set)) i l (bounded .bound free (o .set) (inside-own free b) (o .inside)) (o .meets)
 
   -- ---- a set that is tried
 

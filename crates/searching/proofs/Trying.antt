@@ -9,9 +9,10 @@ use lib.Bits.{bitAnd, and-le-l}
 use borrow.Author.Tests.{leb-true, le-leb}
 use Rattle.rules.specs.Sets.{contains, size, without}
 use Rattle.rules.proofs.Lists.{and-parts, and-both, holds-fails}
-use Rattle.rules.proofs.Sets.{contains-refl, contains-and}
+use Rattle.rules.proofs.Sets.{contains-and}
 use Rattle.rules.proofs.Differences.{contains-without, next-within}
 use Rattle.parts.specs.Parts.{Inside, Bounded}
+use Rattle.parts.proofs.LeanSets.{inside-own}
 use Rattle.searching.specs.Serving.{Servable, Decides}
 use Rattle.searching.specs.Searching.{ServableFrom, leftAfter, Wanted}
 use Rattle.searching.specs.declared.serve.Task.{Task}
@@ -78,7 +79,7 @@ module _ (lean : ℕ → ℕ) (task : Task) (wanted : ℕ) where
   pub tried-none : task .free .bits < 2 ^ 16 → Tried (task .free .bits)
   tried-none b =
       record {
-        inside = record { small = b; within = contains-refl (task .free .bits) };
+        inside = inside-own (task .free .bits) b;
         none-above = none-above-all lean size (task .extracts - 1) (task .free .bits) (task .unmet) (task .cost) wanted;
       }
 

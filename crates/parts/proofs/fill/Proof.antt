@@ -5,8 +5,8 @@ use native.Mathlib.Omega.{arith}
 use lib.ListN.{length}
 use lib.Pow.{pow-mono}
 use borrow.Author.Needs.{needs}
-use Rattle.parts.specs.Parts.{inTable, Filled}
-use Rattle.parts.proofs.FilledTables.{filled-none, filled-more, filled-all}
+use Rattle.parts.specs.Parts.{inTable}
+use Rattle.parts.proofs.FilledTables.{Filled, filled-none, filled-more, filled-all}
 use Rattle.parts.proofs.fill.Statement.{statement}
 use Rattle.parts.proofs.fill.Tie as tie
 
