@@ -21,7 +21,8 @@ few-sets : (q : Numbers) → unfit q ≡ false → length (q .forbidden) ≤ 32
 unfolding setsTooMany
 few-sets q e = ltb-false 32 (length (q .forbidden)) (fit-clauses q e .fewSets)
 
-fit-numbers : (q : Numbers) → unfit q ≡ false → numbersIn (jobWith q) ≡ q
+-- a job with fit numbers holds them
+pub fit-numbers : (q : Numbers) → unfit q ≡ false → numbersIn (jobWith q) ≡ q
 unfolding numbersIn jobWith
 fit-numbers q e = rw (held (q .forbidden) 32 (few-sets q e), held (q .marks) 512 (marks-few q e))
 

@@ -58,7 +58,7 @@ pub fn load(columns: usize, forbidden: &[u16], marks: &[u16]) -> Loaded
 }
 
 // What unfit numbers give.
-fn unfit() -> Loaded
+pub fn unfit() -> Loaded
     ensures { λ r. ⌜ (r .fit ≡ false) × (r .job ≡ noJob) ⌝ }
 {
     Loaded {

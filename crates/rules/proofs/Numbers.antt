@@ -14,7 +14,7 @@ use Rattle.rules.specs.Marks.{rows, needOf, needsOf}
 use Rattle.rules.specs.Jobs.{Job}
 use Rattle.rules.specs.Numbers.{Numbers, unfit, jobOf, absent, columnsUnfit, setsTooMany, setUnfit, unclosed, markUnfit, needsTooMany}
 use Rattle.rules.specs.Numbers.{needUnfit, markless, joinsTooFew, leavesOther, columnMarksTooMany}
-use Rattle.rules.proofs.Lists.{or-neither}
+use Rattle.rules.proofs.Lists.{or-none, or-neither}
 
 pub unfit-none : (q : Numbers) → unfit q ≡ true → jobOf q ≡ none
 unfolding jobOf
@@ -40,6 +40,14 @@ fit-clauses q e =
     let f = or-neither _ _ (d .0) in
     let g = or-neither _ _ (f .0) in
     record { columns = g .0; fewSets = g .1; sets = f .1; closed = d .1; needs = c .1; marks = b .1; fewNeeds = a .1 }
+
+-- numbers of which no clause holds are fit
+pub clauses-fit : (q : Numbers) → Fit q → unfit q ≡ false
+unfolding unfit
+clauses-fit q fit =
+    let sets = or-none _ _ (or-none _ _ (fit .columns) (fit .fewSets)) (fit .sets) in
+    let needs = or-none _ _ (or-none _ _ sets (fit .closed)) (fit .needs) in
+    or-none _ _ (or-none _ _ needs (fit .marks)) (fit .fewNeeds)
 
 pub record FitNeed (row : List ℕ) : Type 0 where
   pub marked : markless row ≡ false

@@ -1,8 +1,9 @@
--- What a search place by place has found out: the first place of which a test holds, or that there is none. Assumes nothing.
-use mathlib.Core.Path.{_≡_, refl}
+-- What a search place by place has found out: the first place of which a test holds, or that there is none; and two searches one after the other.
+-- Assumes nothing.
+use mathlib.Core.Path.{_≡_, refl, sym}
 use mathlib.Core.Bool.{Bool, true, false}
 use mathlib.Core.List.{List, [], _∷_}
-use mathlib.Core.Option.{none, some}
+use mathlib.Core.Option.{Option, none, some, orElse, Option·none-ne-some}
 use Prim.Native.Nat.{ℕ, zero, suc, _<_}
 use native.Mathlib.Omega.{arith}
 use lib.ListN.{length, getD}
@@ -35,3 +36,9 @@ module _ {A : Type 0} (p : A → Bool) (d : A) where
   unfolding firstWhere
   first-same q same [] = refl
   first-same q same (x ∷ xs) = rw (same x, first-same q same xs)
+
+-- where one search and then another finds nothing neither does
+pub else-none : {A : Type 0} (a b : Option A) → orElse a b ≡ none → (a ≡ none) × (b ≡ none)
+unfolding orElse
+else-none none b e = (refl, e)
+else-none (some a) b e = absurd (Option·none-ne-some a (sym e))

@@ -175,3 +175,9 @@ worth-has p (suc n) (suc i) h =
     half : (b : Bool) (x : ℕ) → (x * 2 + cond b 1 0) / 2 ≡ x
     half true x = omega arith
     half false x = omega arith
+
+-- ---- the bit of a column as it is computed
+
+-- 16 bits hold it
+pub bit-fits : (i : ℕ) → i < 16 → 1 * 2 ^ i % 2 ^ 16 ≡ 2 ^ i
+bit-fits i l = omega (arith, pow-mono {i = i} {j = 15} (omega arith))

@@ -14,17 +14,13 @@ use Rattle.rules.specs.Verdicts.{Verdict, unfitJob, improper, forbids, s
 use Rattle.rules.specs.Refusals.{numbersUnfit}
 use Rattle.rules.specs.Verdicts.{Places, firstImproper, firstForbidden, firstSharing, firstUnmet, firstFault, verdict, judged}
 use Rattle.rules.proofs.Lists.{and-parts, and-both, every-in, every-all, not-any-in, not-any-all, first-none, none-first}
+use Rattle.rules.proofs.Searches.{else-none}
 use Rattle.rules.proofs.Numbers.{unfit-none, fit-job}
 use Rattle.rules.proofs.Splits.{correct-parts, parts-correct}
 
 -- ---- of several findings
 
 module _ {A : Type 0} where
-  else-none : (a b : Option A) → orElse a b ≡ none → (a ≡ none) × (b ≡ none)
-  unfolding orElse
-  else-none none b e = (refl, e)
-  else-none (some a) b e = let z : _≡_ {A = Bool} true false = cc in absurd (true≢false z)
-
   none-else : (a b : Option A) → a ≡ none → b ≡ none → orElse a b ≡ none
   unfolding orElse
   none-else none b p q = q

@@ -4,7 +4,7 @@ use mathlib.Core.List.{List, [], _∷_, _++_}
 use Prim.Native.Nat.{ℕ, zero, suc, _+_, _≤_, _<_}
 use native.Mathlib.Numerals.{add-one}
 use native.Mathlib.Omega.{arith}
-use lib.ListN.{length, getD, set, take, drop}
+use lib.ListN.{length, getD, set, take, drop, replicate}
 use Rattle.rules.specs.Lists.{written}
 
 module _ {A : Type 0} where
@@ -73,3 +73,22 @@ module _ {A : Type 0} where
   written-back (suc count) [] (x ∷ new) e same = absurd (omega arith)
   written-back (suc count) (y ∷ old) [] e same = absurd (omega arith)
   written-back (suc count) (y ∷ old) (x ∷ new) e same = ap (λ (s : List A). x ∷ s) (written-back count old new (omega arith) same)
+
+  -- a list and another behind it are written one after the other
+  pub written-after : (first second old : List A) → length first ≤ length old
+      → written (first ++ second) old ≡ first ++ written second (drop (length first) old)
+  unfolding written
+  written-after [] second old h = refl
+  written-after (x ∷ first) second [] h = absurd (omega arith)
+  written-after (x ∷ first) second (y ∷ old) h = ap (λ (l : List A). x ∷ l) (written-after first second old (omega arith))
+
+  -- a list written over equal ones, and these over more of them, is the list written over those
+  pub written-padded : (new : List A) (n m : ℕ) (d : A) → length new ≤ n → n ≤ m
+      → written (written new (replicate n d)) (replicate m d) ≡ written new (replicate m d)
+  unfolding written
+  written-padded [] zero m d h l = refl
+  written-padded [] (suc n) zero d h l = absurd (omega arith)
+  written-padded [] (suc n) (suc m) d h l = ap (λ (t : List A). d ∷ t) (written-padded [] n m d (omega arith) (omega arith))
+  written-padded (x ∷ new) zero m d h l = absurd (omega arith)
+  written-padded (x ∷ new) (suc n) zero d h l = absurd (omega arith)
+  written-padded (x ∷ new) (suc n) (suc m) d h l = ap (λ (t : List A). x ∷ t) (written-padded new n m d (omega arith) (omega arith))

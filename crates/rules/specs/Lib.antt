@@ -11,6 +11,12 @@ pub mod Conditions
 pub mod Diagrams
 pub mod Paths
 pub mod Refusals
+pub mod Signs
+pub mod Names
+pub mod Phrases
+pub mod Texts
+pub mod Sheets
+pub mod Readings
 pub mod Drawings
 pub mod Plannings
 pub mod Verdicts

@@ -25,6 +25,11 @@ module _ {A : Type 0} where
   firstWhere p [] = none
   firstWhere p (x ∷ xs) = cond (p x) (some 0) (Option·map suc (firstWhere p xs))
 
+  -- the first one, if there is one
+  unfoldable pub firstOf : List A → Option A
+  firstOf [] = none
+  firstOf (x ∷ xs) = some x
+
   -- a list written over the first places of another, as far as there are places; the places after it stay
   unfoldable pub written : List A → List A → List A
   written [] old = old

@@ -1,0 +1,136 @@
+-- Walks over lines and over the names of a line, with what is known of those that are left. Assumes nothing.
+use mathlib.Core.Path.{_≡_, refl, sym, _∙_}
+use mathlib.Core.Bool.{true, false}
+use mathlib.Core.List.{List, [], _∷_, _++_}
+use Prim.Native.Nat.{ℕ, zero, suc, _+_, _-_, _<_, _≤_}
+use native.Mathlib.Omega.{arith}
+use lib.ListN.{length}
+use Rattle.rules.specs.Signs.{byteAt, inName}
+use Rattle.rules.specs.Names.{Spot, spot, Run, Name}
+use Rattle.rules.specs.Texts.{Line, line}
+use Rattle.rules.proofs.Names.{inside}
+use Rattle.naming.specs.Words.{isSign, Skips, Between, nothing, sign, word, Words, Rows, no-row, one-row}
+use Rattle.naming.proofs.Walks.{between-forward, between-append, words-skips, words-stops, words-some, words-name, words-later, words-end}
+use Rattle.faults.specs.Kinds.{beginsOf, widthOf}
+use Rattle.faults.specs.declared.sections.Section.{Section}
+use Rattle.faults.specs.declared.sections.Section.the-variants.{Columns, Forbid, Need}
+
+-- ---- bytes read
+
+-- what it says of a byte of the text and one sought that the two that were read are the same
+pub told-same : {r f a b : ℕ} → r ≡ a → f ≡ b → r ≡ f → a ≡ b
+told-same e g h = sym e ∙ h ∙ g
+
+-- or not
+pub told-other : {r f a b : ℕ} → r ≡ a → f ≡ b → (r ≡ f → ⊥) → a ≡ b → ⊥
+told-other e g n h = n (e ∙ h ∙ sym g)
+
+-- ---- places
+
+-- a byte that is not 0 lies within the text
+pub byte-inside : (s : List ℕ) {p b : ℕ} → byteAt s p ≡ b → (b ≡ 0 → ⊥) → p < length s
+byte-inside s {p} e n = inside s p (λ z. n (sym e ∙ z))
+
+-- where a line begins lies within the text
+pub line-inside : (s : List ℕ) (section : Section) {p : ℕ} → byteAt s p ≡ beginsOf section → p < length s
+line-inside s Columns e = byte-inside s e (λ z. absurd (omega arith))
+line-inside s Forbid e = byte-inside s e (λ z. absurd (omega arith))
+line-inside s Need e = byte-inside s e (λ z. absurd (omega arith))
+
+-- a key has a few bytes
+pub width-bounds : (section : Section) → (1 ≤ widthOf section) × (widthOf section ≤ 8)
+width-bounds Columns = (omega arith, omega arith)
+width-bounds Forbid = (omega arith, omega arith)
+width-bounds Need = (omega arith, omega arith)
+
+-- a line ends within the text
+pub words-inside : {s : List ℕ} {p q : ℕ} {names : List Spot} → Words s p q names → (p ≤ q) × (q < length s)
+words-inside {s} w = (between-forward (w .between), byte-inside s (w .ends) (λ z. absurd (omega arith)))
+
+-- ---- lines
+
+-- of the lines to place q those from this place on are left, and this is known of them
+pub record RowsLeft (s : List ℕ) (begins width place q : ℕ) (P : List (Line (List Spot)) → Type 0) : Type 0 where
+  pub later : List (Line (List Spot))
+  pub rows : Rows s begins width place q later
+  pub known : P later
+
+module _ {s : List ℕ} {begins width place q : ℕ} {P : List (Line (List Spot)) → Type 0} (left : RowsLeft s begins width place q P) where
+  -- where a line begins one is left
+  pub row-here : byteAt s place ≡ begins
+      → (r : ℕ) × (names : List Spot) × (later : List (Line (List Spot))) × Words s (place + width) r names × P (line place names ∷ later)
+  row-here e = go (left .rows) (left .known)
+    where
+      go : {q : ℕ} {rows : List (Line (List Spot))} → Rows s begins width place q rows → P rows
+          → (r : ℕ) × (names : List Spot) × (later : List (Line (List Spot))) × Words s (place + width) r names × P (line place names ∷ later)
+      go (no-row n) k = absurd (n e)
+      go (one-row {r} {names} {rows} f words later) k = (r, names, rows, words, k)
+
+  -- behind it the others are left
+  pub row-next : {next : ℕ} {Q : List (Line (List Spot)) → Type 0} → byteAt s place ≡ begins
+      → ((r : ℕ) (names : List Spot) → Words s (place + width) r names → next ≡ r + 1)
+      → ((r : ℕ) (names : List Spot) (later : List (Line (List Spot))) → Words s (place + width) r names → P (line place names ∷ later) → Q later)
+      → RowsLeft s begins width next q Q
+  row-next {next} {Q} e ends step = go (left .rows) (left .known)
+    where
+      go : {q : ℕ} {rows : List (Line (List Spot))} → Rows s begins width place q rows → P rows → RowsLeft s begins width next q Q
+      go (no-row n) k = absurd (n e)
+      go (one-row {r} {names} {rows} f words later) k =
+          record { later = rows; rows = rw (ends r names words) later; known = step r names rows words k }
+
+  -- where no line begins none is left
+  pub row-end : (byteAt s place ≡ begins → ⊥) → (place ≡ q) × P []
+  row-end n = go (left .rows) (left .known)
+    where
+      go : {q : ℕ} {rows : List (Line (List Spot))} → Rows s begins width place q rows → P rows → (place ≡ q) × P []
+      go (no-row m) k = (refl, k)
+      go (one-row e words later) k = absurd (n e)
+
+-- ---- names
+
+-- of the names to the line's end at place q those from this place on are left, and this is known of them
+pub record NamesLeft (s : List ℕ) (place q : ℕ) (P : List Spot → Type 0) : Type 0 where
+  pub later : List Spot
+  pub words : Words s place q later
+  pub stops : isSign (byteAt s place) ≡ false
+  pub known : P later
+
+-- past the signs all are left
+pub names-start : {s : List ℕ} {from place q : ℕ} {names : List Spot} {P : List Spot → Type 0} → Words s from q names → Skips s from place
+    → P names → NamesLeft s place q P
+names-start {names} w k p = record { later = names; words = words-skips w k; stops = words-stops w k; known = p }
+
+module _ {s : List ℕ} {place q : ℕ} {P : List Spot → Type 0} (left : NamesLeft s place q P) where
+  -- where a byte in a name stands a name is left
+  pub name-here : inName (byteAt s place) ≡ true → (r : ℕ) × (later : List Spot) × Name s place r × P (spot s place r ∷ later)
+  name-here e = let f = words-some (left .words) e in (f .0, f .1 .later, f .1 .name, rw (f .1 .same) at (left .known))
+
+  -- behind it and the signs that follow the others are left
+  pub name-next : {r next : ℕ} {Q : List Spot → Type 0} → inName (byteAt s place) ≡ true → Run s place r → Skips s r next
+      → ((later : List Spot) → Name s place r → P (spot s place r ∷ later) → Q later) → NamesLeft s next q Q
+  name-next e run k step =
+      let f = words-name (left .words) e run in
+      let w = words-later (left .words) f in
+      names-start w k (step (f .later) (f .name) (rw (f .same) at (left .known)))
+
+  -- where none stands none is left
+  pub name-last : inName (byteAt s place) ≡ false → P []
+  name-last e = rw (words-end (left .words) (left .stops) e .1) at (left .known)
+
+-- ---- the names before
+
+-- past signs there is no name
+signs-between : {s : List ℕ} (k : ℕ) {p q : ℕ} → q ≡ p + k → ((i : ℕ) → p ≤ i → i < q → isSign (byteAt s i) ≡ true) → Between s p q []
+signs-between zero {p} {q} e signs = let f : q ≡ p = omega arith in rw f nothing
+signs-between {s} (suc k) {p} {q} e signs =
+    let f : q ≡ p + 1 + k = omega arith in
+    sign (signs p (omega arith) (omega arith)) (signs-between k f (λ i l h. signs i (omega arith) h))
+
+-- from the line's first place past the signs to the first name there is none
+pub skips-nothing : {s : List ℕ} {p q : ℕ} → Skips s p q → Between s p q []
+skips-nothing {s} {p} {q} k = signs-between (q - p) (omega (arith, k .forward)) (k .signs)
+
+-- a name and the signs behind it
+pub name-between : {s : List ℕ} {from p r q : ℕ} {before : List Spot} → Between s from p before → Name s p r → Skips s r q
+    → Between s from q (before ++ (spot s p r ∷ []))
+name-between b n k = between-append b (word n (skips-nothing k))

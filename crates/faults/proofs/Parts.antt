@@ -1,0 +1,144 @@
+-- The parts of a text of the form: its lines where the code looks for them, and the number at its end. Assumes nothing.
+use mathlib.Core.Path.{_≡_, refl, sym, ap, _∙_}
+use mathlib.Core.Bool.{true}
+use mathlib.Core.List.{List, [], _∷_, map}
+use mathlib.Core.Option.{none, some, Option·map, orElse, map-eq-none-iff}
+use Prim.Native.Nat.{ℕ, _+_, _-_, _*_, _<_, _≤_}
+use native.Mathlib.Omega.{arith}
+use lib.ListN.{length, length-map}
+use borrow.Author.Tests.{eq-eqb, ne-eqb, leb-true}
+use Rattle.rules.specs.Signs.{byteAt, Says, says-byte, digit, lineEnd}
+use Rattle.rules.specs.Refusals.{tooMany}
+use Rattle.rules.specs.Names.{Spot}
+use Rattle.rules.specs.Phrases.{Formula, namesIn}
+use Rattle.rules.specs.Texts.{Line, line, Number, one-digit, two-digits, Sheet, OfForm}
+use Rattle.rules.specs.Sheets.{refusal, over, nameAfter, lineAfter, firstFault, linesFault, columnFault, forbidFault, needFault, namesFault, endFault}
+use Rattle.rules.proofs.Lists.{and-parts}
+use Rattle.naming.specs.Words.{Rows, no-row, one-row}
+use Rattle.naming.proofs.Laid.{laid, laid-forbids, laid-needs}
+use Rattle.faults.specs.Kinds.{rowsOver, Walks, Sectioned}
+use Rattle.faults.specs.declared.sections.Walked.{Walked}
+use Rattle.faults.specs.declared.sections.Places.{Places}
+use Rattle.faults.proofs.Refusing.{map-first, no-first, first-only}
+use Rattle.faults.proofs.Left.{byte-inside}
+use Rattle.faults.proofs.Counted.{few-names, needs-rows}
+
+-- ---- the number at the end
+
+-- a digit is 48 or more
+digit-least : (b : ℕ) → digit b ≡ true → 48 ≤ b
+digit-least b e = leb-true 48 b (and-parts _ _ e .0)
+
+-- it stands within the text
+pub number-inside : {s : List ℕ} {p q n : ℕ} → Number s p q n → p < length s
+number-inside {s} {p} (one-digit e) = byte-inside s refl (λ z. absurd (omega (arith, digit-least (byteAt s p) e)))
+number-inside {s} {p} (two-digits e f g) = byte-inside s refl (λ z. absurd (omega (arith, digit-least (byteAt s p) e)))
+
+-- it has one digit if no digit follows
+pub number-one : {s : List ℕ} {p q n : ℕ} → Number s p q n → byteAt s (p + 1) < 48 → byteAt s p - 48 ≡ n
+number-one (one-digit e) h = refl
+number-one {s} {p} (two-digits e f g) h = absurd (omega (arith, digit-least (byteAt s (p + 1)) g))
+
+-- and else two
+pub number-two : {s : List ℕ} {p q n : ℕ} → Number s p q n → byteAt s q ≡ lineEnd → 48 ≤ byteAt s (p + 1)
+    → 10 * (byteAt s p - 48) + (byteAt s (p + 1) - 48) ≡ n
+number-two {s} {p} (one-digit e) g h = absurd (omega arith)
+number-two (two-digits e f g) i h = refl
+
+-- ---- the lines
+
+-- the first byte that is said
+first-said : {s : List ℕ} {p b : ℕ} {bytes : List ℕ} → Says s p (b ∷ bytes) → byteAt s p ≡ b
+first-said (says-byte e says) = e
+
+-- rows begin with their byte, or there are none
+rows-begin : {s : List ℕ} {begins width p q : ℕ} {rows : List (Line (List Spot))} → Rows s begins width p q rows
+    → (b : ℕ) → (begins ≡ b → ⊥) → (byteAt s q ≡ b → ⊥) → byteAt s p ≡ b → ⊥
+rows-begin (no-row n) b other after e = after e
+rows-begin (one-row f words rows) b other after e = other (sym f ∙ e)
+
+module _ {s : List ℕ} {sheet : Sheet} (form : OfForm s sheet) where
+  -- the line of the columns is the only one of its kind
+  pub columns-row : Rows s 99 8 0 (form .columnsTo + 1) (line 0 (sheet .columns) ∷ [])
+  columns-row =
+      let end : byteAt s (form .endFrom) ≡ 99 → ⊥ = λ e. let z = sym (first-said (form .endSaid)) ∙ e in omega arith in
+      let needs : byteAt s (form .needsFrom) ≡ 99 → ⊥ = rows-begin (laid-needs form) 99 (λ e. omega arith) end in
+      one-row (first-said (form .columnsSaid)) (laid form .columns) (no-row (rows-begin (laid-forbids form) 99 (λ e. omega arith) needs))
+
+  -- walks over the lines of each kind, each from where the one before ended, find where they stand
+  pub sectioned : {a b d : Walked} → ((q : ℕ) (rows : List (Line (List Spot))) → Rows s 99 8 0 q rows → Walks q rows a)
+      → ((q : ℕ) (rows : List (Line (List Spot))) → Rows s 102 7 (a .to) q rows → Walks q rows b)
+      → ((q : ℕ) (rows : List (Line (List Spot))) → Rows s 110 5 (b .to) q rows → Walks q rows d)
+      → Sectioned s sheet form (record { forbids = a .to; needs = b .to; end = d .to; lines = b .lines + d .lines })
+  sectioned columns forbids needs =
+      let first = columns (form .columnsTo + 1) (line 0 (sheet .columns) ∷ []) columns-row in
+      let second = forbids (form .needsFrom) (sheet .forbids) (rw (first .to) (laid-forbids form)) in
+      let third = needs (form .endFrom) (map (λ l. line (l .place) (namesIn (l .value))) (sheet .needs)) (rw (second .to) (laid-needs form)) in
+      record {
+        forbids = first .to;
+        needs = second .to;
+        end = third .to;
+        lines = omega (arith, second .lines, third .lines ∙ length-map (sheet .needs) _);
+      }
+
+module _ {s : List ℕ} {sheet : Sheet} (form : OfForm s sheet) {places : Places} (at : Sectioned s sheet form places) where
+  -- the forbid lines from their place on
+  pub forbid-rows : Rows s 102 7 (places .forbids) (form .needsFrom) (sheet .forbids)
+  forbid-rows = rw (at .forbids) (laid-forbids form)
+
+  -- the need lines from their place on
+  pub need-rows : Rows s 110 5 (places .needs) (form .endFrom) (map (λ l. line (l .place) (namesIn (l .value))) (sheet .needs))
+  need-rows = rw (at .needs) (laid-needs form)
+
+  -- the end line lies within the text
+  pub end-inside : places .end < length s
+  end-inside = rw (at .end) (byte-inside s (first-said (form .endSaid)) (λ z. absurd (omega arith)))
+
+  module _ {n : ℕ} (read : (q k : ℕ) → Number s (places .end + 4) q k → byteAt s q ≡ lineEnd → n ≡ k) where
+    -- the number read is the sheet's
+    end-number : n ≡ sheet .ended .value
+    end-number = read (form .numberTo) (sheet .ended .value) (rw (at .end) (form .number)) (form .numberEnd)
+
+    -- the number at the end is right
+    pub end-same : n ≡ places .lines → none ≡ endFault sheet
+    unfolding endFault
+    end-same e = sym (rw (eq-eqb (sheet .ended .value) (length (sheet .forbids) + length (sheet .needs)) (sym end-number ∙ e ∙ at .lines)))
+
+    -- or another
+    pub end-other : (n ≡ places .lines → ⊥) → some (refusal 6 (places .end + 4)) ≡ endFault sheet
+    unfolding endFault
+    end-other f =
+        let g : sheet .ended .value ≡ length (sheet .forbids) + length (sheet .needs) → ⊥ = λ e. f (end-number ∙ e ∙ sym (at .lines)) in
+        let e : places .end + 4 ≡ sheet .ended .place = ap (λ (p : ℕ). p + 4) (at .end) ∙ sym (form .ended) in
+        rw (ne-eqb (sheet .ended .value) (length (sheet .forbids) + length (sheet .needs)) g, e)
+
+-- ---- what can be at fault, part by part
+
+-- more than there may be: the columns, the forbid lines, the need lines
+pub over-parts : (sheet : Sheet) → Option·map (refusal tooMany) (over sheet)
+    ≡ orElse (Option·map (refusal tooMany) (nameAfter 16 (sheet .columns)))
+    (orElse (Option·map (refusal tooMany) (lineAfter 32 (sheet .forbids)))
+    (Option·map (refusal tooMany) (rowsOver 8 (map (λ l. line (l .place) (namesIn (l .value))) (sheet .needs)))))
+unfolding over
+over-parts sheet =
+    rw (needs-rows 8 (sheet .needs))
+    (map-first (refusal tooMany) _ _ ∙ rw (map-first (refusal tooMany) (lineAfter 32 (sheet .forbids)) _))
+
+-- with no more than there may be there are at most 16 columns
+pub few-columns : (sheet : Sheet) → Option·map (refusal tooMany) (over sheet) ≡ none → length (sheet .columns) ≤ 16
+unfolding over
+few-columns sheet e = few-names 16 (sheet .columns) (no-first _ _ (map-eq-none-iff (refusal tooMany) (over sheet) .0 e))
+
+-- the lines of the names of need lines
+need-names : (lines : List (Line Formula))
+    → map (λ l. l .value) (map (λ l. line (l .place) (namesIn (l .value))) lines) ≡ map (λ l. namesIn (l .value)) lines
+need-names [] = refl
+need-names (l ∷ lines) = rw (need-names lines)
+
+-- names at fault: in the line of the columns, the forbid lines, the need lines
+pub names-parts : (sheet : Sheet) → namesFault sheet
+    ≡ orElse (linesFault columnFault (map (λ l. l .value) (line 0 (sheet .columns) ∷ [])))
+    (orElse (linesFault (forbidFault (sheet .columns)) (map (λ l. l .value) (sheet .forbids)))
+    (linesFault (needFault (sheet .columns)) (map (λ l. l .value) (map (λ l. line (l .place) (namesIn (l .value))) (sheet .needs)))))
+unfolding namesFault linesFault
+names-parts sheet = rw (need-names (sheet .needs), first-only (firstFault columnFault [] (sheet .columns)))

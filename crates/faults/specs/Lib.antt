@@ -1,0 +1,3 @@
+-- What the contracts of faults cite besides the rules.
+pub mod Refused
+pub mod Kinds

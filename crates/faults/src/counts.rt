@@ -1,0 +1,116 @@
+// Refusal 3: more columns, lines or names than there may be.
+use crate::numbers::Fault;
+use crate::numbers::TOO_MANY;
+use crate::numbers::no_fault;
+use crate::sections::Places;
+use crate::sections::Section;
+use crate::sections::begins;
+use crate::sections::next_line;
+use crate::sections::width;
+use naming::signs::byte;
+use naming::signs::in_name;
+use naming::words::name_end;
+use naming::words::next_name;
+ghost use mathlib.Core.Path.{_≡_};
+ghost use mathlib.Core.List.{List};
+ghost use mathlib.Core.Option.{Option·map};
+ghost use Prim.Native.Nat.{ℕ};
+ghost use Rattle.rules.specs.Names.{Spot};
+ghost use Rattle.rules.specs.Refusals.{tooMany};
+ghost use Rattle.rules.specs.Texts.{Line, Sheet, OfForm};
+ghost use Rattle.rules.specs.Sheets.{refusal, nameAfter, lineAfter, over as overOf};
+ghost use Rattle.naming.specs.Words.{Words, Rows};
+ghost use Rattle.faults.specs.Refused.{refusalIn};
+ghost use Rattle.faults.specs.Kinds.{beginsOf, widthOf, rowsOver, Sectioned};
+ghost use Rattle.faults.specs.declared.sections.Section.the-variants.{Forbid, Need};
+
+// "Columns 1 to 16. Forbidden sets 0 to 32. Needs 0 to 8. Column marks in a need 1 to 32."
+const MOST_COLUMNS: usize = 16;
+
+const MOST_FORBIDDEN: usize = 32;
+
+const MOST_NEEDS: usize = 8;
+
+const MOST_NAMES: usize = 32;
+
+// The name after the first so many of a line.
+fn name_over(text: &[u8], from: usize, most: usize) -> Fault
+    ensures { λ r. ⌜ ((q : ℕ) (names : List Spot) → Words (now (text .entry)) from q names
+        → refusalIn r ≡ Option·map (refusal tooMany) (nameAfter most names)) ⌝ }
+{
+    let mut count = 0;
+    let mut place = next_name(text, from);
+    while in_name(byte(text, place)) {
+        if count == most {
+            return Fault {
+                number: TOO_MANY,
+                place,
+            };
+        }
+        count += 1;
+        place = next_name(text, name_end(text, place));
+    }
+    no_fault()
+}
+
+// The 33rd forbid line.
+fn forbid_over(text: &[u8], from: usize) -> Fault
+    ensures { λ r. ⌜ ((q : ℕ) (rows : List (Line (List Spot))) → Rows (now (text .entry)) (beginsOf Forbid) (widthOf Forbid) from q rows
+        → refusalIn r ≡ Option·map (refusal tooMany) (lineAfter 32 rows)) ⌝ }
+{
+    let first = begins(Section::Forbid);
+    let mut count = 0;
+    let mut place = from;
+    while byte(text, place) == first {
+        if count == MOST_FORBIDDEN {
+            return Fault {
+                number: TOO_MANY,
+                place,
+            };
+        }
+        count += 1;
+        place = next_line(text, Section::Forbid, place);
+    }
+    no_fault()
+}
+
+// The 33rd name of a need line, or the 9th need line.
+fn need_over(text: &[u8], from: usize) -> Fault
+    ensures { λ r. ⌜ ((q : ℕ) (rows : List (Line (List Spot))) → Rows (now (text .entry)) (beginsOf Need) (widthOf Need) from q rows
+        → refusalIn r ≡ Option·map (refusal tooMany) (rowsOver 8 rows)) ⌝ }
+{
+    let first = begins(Section::Need);
+    let before = width(Section::Need);
+    let mut count = 0;
+    let mut place = from;
+    while byte(text, place) == first {
+        if count == MOST_NEEDS {
+            return Fault {
+                number: TOO_MANY,
+                place,
+            };
+        }
+        let name = name_over(text, place + before, MOST_NAMES);
+        if name.number != 0 {
+            return name;
+        }
+        count += 1;
+        place = next_line(text, Section::Need, place);
+    }
+    no_fault()
+}
+
+pub fn over(text: &[u8], places: Places) -> Fault
+    ensures { λ r. ⌜ ((sheet : Sheet) (form : OfForm (now (text .entry)) sheet) → Sectioned (now (text .entry)) sheet form places
+        → refusalIn r ≡ Option·map (refusal tooMany) (overOf sheet)) ⌝ }
+{
+    let column = name_over(text, width(Section::Columns), MOST_COLUMNS);
+    if column.number != 0 {
+        return column;
+    }
+    let forbid = forbid_over(text, places.forbids);
+    if forbid.number != 0 {
+        return forbid;
+    }
+    need_over(text, places.needs)
+}

@@ -1,0 +1,97 @@
+// Where the lines of each kind begin in a text of the form.
+use naming::signs::byte;
+use naming::words::line_end;
+ghost use mathlib.Core.Path.{_≡_};
+ghost use mathlib.Core.List.{List};
+ghost use Prim.Native.Nat.{ℕ, _+_, _<_, _≤_};
+ghost use lib.ListN.{length};
+ghost use Rattle.rules.specs.Names.{Spot};
+ghost use Rattle.rules.specs.Texts.{Line, Sheet, OfForm};
+ghost use Rattle.naming.specs.Words.{Words, Rows};
+ghost use Rattle.faults.specs.Kinds.{beginsOf, widthOf, Walks, Sectioned};
+
+// The kinds of lines that have names.
+pub enum Section {
+    Columns,
+    Forbid,
+    Need,
+}
+
+// The byte that a line begins with. No two kinds share it, nor does the end line.
+pub fn begins(section: Section) -> u8
+    ensures { λ r. ⌜ r ≡ beginsOf section ⌝ }
+{
+    match section {
+        Section::Columns => b'c',
+        Section::Forbid => b'f',
+        Section::Need => b'n',
+    }
+}
+
+// How many bytes stand before its value.
+pub fn width(section: Section) -> usize
+    ensures { λ r. ⌜ r ≡ widthOf section ⌝ }
+{
+    match section {
+        Section::Columns => 8,
+        Section::Forbid => 7,
+        Section::Need => 5,
+    }
+}
+
+// The place behind the line of a kind that begins at a place.
+pub fn next_line(text: &[u8], section: Section, at: usize) -> usize
+    requires { ⌜ at < length (now text) ⌝ }
+    ensures later { λ r. ⌜ at < r ⌝ }
+    ensures is { λ r. ⌜ ((q : ℕ) (names : List Spot) → Words (now (text .entry)) (at + widthOf section) q names → r ≡ q + 1) ⌝ }
+{
+    let value = at + width(section);
+    if text.len() < value {
+        return value;
+    }
+    line_end(text, value) + 1
+}
+
+// How many lines there are, and the place behind them.
+pub struct Walked {
+    pub lines: usize,
+    pub to: usize,
+}
+
+// The lines of a kind from a place on.
+pub fn walk(text: &[u8], section: Section, from: usize) -> Walked
+    ensures few { λ r. ⌜ r .lines ≤ length (now (text .entry)) ⌝ }
+    ensures is { λ r. ⌜ ((q : ℕ) (rows : List (Line (List Spot))) → Rows (now (text .entry)) (beginsOf section) (widthOf section) from q rows
+        → Walks q rows r) ⌝ }
+{
+    let first = begins(section);
+    let mut lines = 0;
+    let mut place = from;
+    while byte(text, place) == first {
+        place = next_line(text, section, place);
+        lines += 1;
+    }
+    Walked { lines, to: place }
+}
+
+// Where the forbid lines, the need lines and the end line begin, and how many forbid and need lines there are.
+pub struct Places {
+    pub forbids: usize,
+    pub needs: usize,
+    pub end: usize,
+    pub lines: usize,
+}
+
+pub fn sections(text: &[u8]) -> Places
+    ensures { λ r. ⌜ ((sheet : Sheet) (form : OfForm (now (text .entry)) sheet) → Sectioned (now (text .entry)) sheet form r) ⌝ }
+{
+    let columns = walk(text, Section::Columns, 0);
+    let forbids = walk(text, Section::Forbid, columns.to);
+    let needs = walk(text, Section::Need, forbids.to);
+    Places {
+        forbids: columns.to,
+        needs: forbids.to,
+        end: needs.to,
+        lines: forbids.lines + needs.lines,
+    }
+}

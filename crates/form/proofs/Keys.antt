@@ -1,0 +1,49 @@
+-- Laws of the keys of lines. Assumes nothing.
+use mathlib.Core.Path.{_≡_, refl, subst}
+use mathlib.Core.Bool.{Bool, true, false, cond}
+use mathlib.Core.List.{List, _∷_}
+use Prim.Native.Nat.{ℕ, suc, _<_}
+use native.Mathlib.Omega.{arith}
+use lib.Dec.{ltb, eqb}
+use lib.ListN.{length, getD}
+use lib.Seq.{drop-cons}
+use borrow.Author.Tests.{ltb-true, lt-ltb, le-ltb, eq-eqb}
+use Rattle.rules.specs.Lists.{every}
+use Rattle.rules.specs.Signs.{byteAt, Says, says-byte, columnsKey, forbidKey, needKey, endKey}
+use Rattle.rules.proofs.Lists.{every-in, getD-in}
+use Rattle.form.specs.declared.machine.State.the-variants.{Key, Begin}
+use Rattle.form.specs.Machine.{keyOf, valueOf, along, step}
+
+-- no byte of a key is 0
+all-bytes : (section : ℕ) → every (ltb 0) (keyOf section) ≡ true
+unfolding every
+all-bytes section = go (eqb section 0) (eqb section 1) (eqb section 2)
+  where
+    go : (a b c : Bool) → every (ltb 0) (cond a columnsKey (cond b forbidKey (cond c needKey endKey))) ≡ true
+    go true b c = refl
+    go false true c = refl
+    go false false true = refl
+    go false false false = refl
+
+pub key-byte : (section k : ℕ) → k < length (keyOf section) → 0 < getD (keyOf section) k 0
+key-byte section k h = ltb-true 0 (getD (keyOf section) k 0) (every-in (ltb 0) (all-bytes section) (getD-in (keyOf section) k 0 h))
+
+-- a forbid line may begin behind a line of the columns or of a forbid
+pub forbid-begins : (before : ℕ) → before < 2 → step (Begin before) (getD (keyOf 1) 0 0) ≡ Key 1 1
+forbid-begins before h = rw (lt-ltb before 2 h)
+
+-- the next byte of a key leads on in the key
+pub along-on : (key : List ℕ) (section k : ℕ) → suc k < length key → along key section k (getD key k 0) ≡ Key section (suc k)
+along-on key section k h = rw (eq-eqb (getD key k 0) (getD key k 0) refl, lt-ltb (suc k) (length key) h)
+
+-- its last byte leads behind the key
+pub along-behind : (key : List ℕ) (section k : ℕ) → suc k ≡ length key → along key section k (getD key k 0) ≡ valueOf section
+along-behind key section k h = rw (eq-eqb (getD key k 0) (getD key k 0) refl, le-ltb (suc k) (length key) (omega arith))
+
+-- of bytes that stand at a place the first stands there, the others behind it
+pub says-first : {s : List ℕ} {p b : ℕ} {bytes : List ℕ} → Says s p (b ∷ bytes) → (byteAt s p ≡ b) × Says s (suc p) bytes
+says-first (says-byte e more) = (e, more)
+
+-- where a key stands, its first byte stands
+pub key-said : (s : List ℕ) (section p : ℕ) → 0 < length (keyOf section) → Says s p (keyOf section) → byteAt s p ≡ getD (keyOf section) 0 0
+key-said s section p h said = says-first (subst (λ (bytes : List ℕ). Says s p bytes) (drop-cons (keyOf section) 0 0 h) said) .0

@@ -1,0 +1,72 @@
+-- Laws of runs of the machine: of a text in two parts, of one byte more, of states that stay. Assumes nothing.
+use mathlib.Core.Path.{_≡_, refl, ap, _∙_}
+use mathlib.Core.Bool.{Bool, true, false, cond, true≢false, false≢true}
+use mathlib.Core.List.{List, [], _∷_, _++_}
+use Prim.Native.Nat.{ℕ, zero, suc, _+_, _<_, _≤_}
+use native.Mathlib.Numerals.{add-one}
+use native.Mathlib.Omega.{arith}
+use lib.ListN.{length, take}
+use lib.Seq.{take-all}
+use Rattle.rules.specs.Signs.{byteAt}
+use Rattle.rules.proofs.Names.{inside}
+use Rattle.form.specs.declared.machine.State.{State}
+use Rattle.form.specs.declared.machine.State.the-variants.{Done, Wrong}
+use Rattle.form.specs.Machine.{step, begin, run, stateAt}
+
+-- the wrong state is not the last one
+pub wrong-done : Wrong ≡ Done → ⊥
+wrong-done e = let z : _≡_ {A = ℕ} 0 1 = cc in omega arith
+
+-- a state chosen by a test that holds, or that fails
+pub chosen : (test : Bool) (x y : State) → test ≡ true → cond test x y ≡ x
+chosen true x y e = refl
+chosen false x y e = absurd (false≢true e)
+
+pub passed : (test : Bool) (x y : State) → test ≡ false → cond test x y ≡ y
+passed true x y e = absurd (true≢false e)
+passed false x y e = refl
+
+-- ---- runs
+
+-- a text in two parts
+pub run-append : (state : State) (a b : List ℕ) → run state (a ++ b) ≡ run (run state a) b
+unfolding run
+run-append state [] b = refl
+run-append state (x ∷ a) b = run-append (step state x) a b
+
+-- from the wrong state none leads away
+pub run-wrong : (bytes : List ℕ) → run Wrong bytes ≡ Wrong
+unfolding run
+run-wrong [] = refl
+run-wrong (b ∷ bytes) = run-wrong bytes
+
+run-next : (state : State) (s : List ℕ) (p : ℕ) → p < length s → run state (take (suc p) s) ≡ step (run state (take p s)) (byteAt s p)
+unfolding run
+run-next state [] p h = absurd (omega arith)
+run-next state (b ∷ s) zero h = refl
+run-next state (b ∷ s) (suc p) h = run-next (step state b) s p (omega arith)
+
+run-stays-wrong : (state : State) (s : List ℕ) (p q : ℕ) → p ≤ q → run state (take p s) ≡ Wrong → run state (take q s) ≡ Wrong
+unfolding run
+run-stays-wrong state s zero q h e = rw e (run-wrong (take q s))
+run-stays-wrong state s (suc p) zero h e = absurd (omega arith)
+run-stays-wrong state [] (suc p) (suc q) h e = e
+run-stays-wrong state (b ∷ s) (suc p) (suc q) h e = run-stays-wrong (step state b) s p q (omega arith) e
+
+-- ---- the states of a text
+
+-- each byte of the text takes the state to the next one
+pub state-next : (s : List ℕ) (p : ℕ) → p < length s → stateAt s (p + 1) ≡ step (stateAt s p) (byteAt s p)
+state-next s p h = rw (add-one p) (run-next begin s p h)
+
+-- so too a byte that is known and not 0, wherever it stands
+pub state-by : (s : List ℕ) (p b : ℕ) (state : State) → stateAt s p ≡ state → byteAt s p ≡ b → 0 < b → stateAt s (p + 1) ≡ step state b
+state-by s p b state e f h = state-next s p (inside s p (λ (z : byteAt s p ≡ 0). omega arith)) ∙ rw (e, f)
+
+-- past the end stands the state behind the whole text
+pub state-all : (s : List ℕ) (p : ℕ) → length s ≤ p → stateAt s p ≡ run begin s
+state-all s p h = ap (run begin) (take-all p s h)
+
+-- where the state is wrong it stays so
+pub stays-wrong : (s : List ℕ) (p q : ℕ) → p ≤ q → stateAt s p ≡ Wrong → stateAt s q ≡ Wrong
+stays-wrong s p q h e = run-stays-wrong begin s p q h e

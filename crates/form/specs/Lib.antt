@@ -1,0 +1,3 @@
+-- What the contracts of form cite besides the rules.
+pub mod Machine
+pub mod Promises

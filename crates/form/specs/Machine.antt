@@ -1,0 +1,119 @@
+-- The machine that takes a text byte by byte: which state follows a state and a byte. Sections are numbers: 0 columns, 1 forbid, 2 need, 3 end.
+use Prim.{Unit}
+use mathlib.Core.Bool.{Bool, false, cond, _||_}
+use mathlib.Core.List.{List, [], _∷_}
+use Prim.Native.Nat.{ℕ, zero, suc, _<_}
+use lib.Dec.{eqb, ltb}
+use lib.ListN.{length, getD, take}
+use Rattle.rules.specs.Signs.{
+  letter,
+  digit,
+  inName,
+  lineEnd,
+  comma,
+  plus,
+  ampersand,
+  bar,
+  bracketOpen,
+  bracketClose,
+  columnsKey,
+  forbidKey,
+  needKey,
+  endKey,
+}
+use Rattle.rules.specs.Names.{mostNameBytes}
+use Rattle.rules.specs.Phrases.{mostBrackets}
+use Rattle.form.specs.declared.machine.State.{State}
+use Rattle.form.specs.declared.machine.State.the-variants.{Key, Begin, Name, Closed, Number, Done, Wrong}
+
+-- the key of a section's lines
+abbrev pub keyOf : ℕ → List ℕ
+keyOf section = cond (eqb section 0) columnsKey (cond (eqb section 1) forbidKey (cond (eqb section 2) needKey endKey))
+
+-- behind a key: an item or the number must come
+abbrev pub valueOf : ℕ → State
+valueOf section = cond (ltb section 3) (Name section 0 0) (Number 0)
+
+-- k bytes of a key stand, and the next one comes
+abbrev pub along : List ℕ → ℕ → ℕ → ℕ → State
+along key section k b = cond (eqb b (getD key k 0)) (cond (ltb (suc k) (length key)) (Key section (suc k)) (valueOf section)) Wrong
+
+abbrev pub inKey : ℕ → ℕ → ℕ → State
+inKey section = along (keyOf section) section
+
+-- at the beginning of a line f, n or e may come; behind a need line no f
+abbrev pub atLine : ℕ → ℕ → State
+atLine section b =
+    cond (eqb b 102) (cond (ltb section 2) (Key 1 1) Wrong) (cond (eqb b 110) (Key 2 1) (cond (eqb b 101) (Key 3 1) Wrong))
+
+-- the sign joins the items of a section
+abbrev pub joining : ℕ → ℕ → Bool
+joining section b =
+    cond (eqb b comma) (eqb section 0) (cond (eqb b plus) (eqb section 1) (cond (eqb b ampersand || eqb b bar) (eqb section 2) false))
+
+-- where an item must come
+abbrev pub atItem : ℕ → ℕ → ℕ → State
+atItem section opened b =
+    cond (letter b) (Name section 1 opened)
+    (cond (eqb b bracketOpen) (cond (eqb section 2) (cond (ltb opened mostBrackets) (Name section 0 (suc opened)) Wrong) Wrong) Wrong)
+
+-- a bracket is closed, of so many that are open
+abbrev pub closing : ℕ → State
+closing zero = Wrong
+closing (suc opened) = Closed opened
+
+-- a line ends, where so many brackets are open
+abbrev pub lineEnding : ℕ → ℕ → State
+lineEnding section zero = Begin section
+lineEnding section (suc opened) = Wrong
+
+-- behind an item
+abbrev pub behindItem : ℕ → ℕ → ℕ → State
+behindItem section opened b =
+    cond (joining section b) (Name section 0 opened)
+    (cond (eqb b bracketClose) (closing opened) (cond (eqb b lineEnd) (lineEnding section opened) Wrong))
+
+-- so many bytes of a name stand
+abbrev pub nameOn : ℕ → ℕ → ℕ → ℕ → State
+nameOn section zero opened b = atItem section opened b
+nameOn section (suc n) opened b =
+    cond (inName b) (cond (ltb (suc n) mostNameBytes) (Name section (suc (suc n)) opened) Wrong) (behindItem section opened b)
+
+-- in the end line's number
+abbrev pub inNumber : ℕ → ℕ → State
+inNumber digits b =
+    cond (eqb b lineEnd) (cond (eqb digits 0) Wrong Done)
+    (cond (digit b) (cond (eqb digits 0) (cond (eqb b 48) (Number 1) (Number 2)) (cond (eqb digits 2) (Number 3) Wrong)) Wrong)
+
+-- the state behind one more byte
+abbrev pub step : State → ℕ → State
+step (Key section k) b = inKey section k b
+step (Begin section) b = atLine section b
+step (Name section count opened) b = nameOn section count opened b
+step (Closed opened) b = behindItem 2 opened b
+step (Number digits) b = inNumber digits b
+step Done b = Wrong
+step Wrong b = Wrong
+
+-- of a key, fewer bytes stand than it has
+abbrev pub Sound : State → Type 0
+Sound (Key section k) = k < length (keyOf section)
+Sound (Begin section) = Unit {0}
+Sound (Name section count opened) = Unit {0}
+Sound (Closed opened) = Unit {0}
+Sound (Number digits) = Unit {0}
+Sound Done = Unit {0}
+Sound Wrong = Unit {0}
+
+-- the state where the text begins: columns=
+abbrev pub begin : State
+begin = Key 0 0
+
+-- the state behind all these bytes
+unfoldable pub run : State → List ℕ → State
+run state [] = state
+run state (b ∷ bytes) = run (step state b) bytes
+
+-- the state behind the first p bytes of a text
+abbrev pub stateAt : List ℕ → ℕ → State
+stateAt s p = run begin (take p s)

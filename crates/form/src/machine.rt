@@ -1,0 +1,232 @@
+// A machine that takes a text byte by byte. Its state is what the bytes so far say about the bytes that may come.
+ghost use mathlib.Core.Path.{_≡_};
+ghost use Prim.Native.Nat.{_<_};
+ghost use lib.ListN.{length};
+ghost use Rattle.rules.specs.Signs.{letter as letterByte, digit as digitByte, inName};
+ghost use Rattle.form.specs.Machine.{keyOf, valueOf, along as alongKey, inKey, atLine, joining, atItem, behindItem, nameOn, inNumber};
+ghost use Rattle.form.specs.Machine.{step as stepped, Sound};
+
+// The sections of a text, each with its key.
+pub const COLUMNS: usize = 0;
+
+const FORBID: usize = 1;
+
+const NEED: usize = 2;
+
+const END: usize = 3;
+
+// "Names 1 to 12 bytes."
+const MOST_NAME_BYTES: usize = 12;
+
+// "Brackets nested at most 8."
+const MOST_BRACKETS: usize = 8;
+
+const LINE_END: u8 = b'\n';
+
+pub enum State {
+    Key(usize, usize), // section, bytes of its key that stand
+    Begin(usize), // a line begins, behind one of this section
+    Name(usize, usize, usize), // section, bytes of a name that stand, open brackets. With 0 bytes a name or a bracket must come
+    Closed(usize), // a closing bracket stands; brackets still open
+    Number(usize), // what stands of the number: 0 nothing, 1 the digit 0, 2 another digit, 3 two digits
+    Done, // the last line has ended
+    Wrong, // no byte that follows can help
+}
+
+// The state behind one more byte.
+pub fn step(state: State, byte: u8) -> State
+    requires { ⌜ Sound state ⌝ }
+    ensures { λ r. ⌜ r ≡ stepped state byte ⌝ }
+{
+    match state {
+        State::Key(section, k) => in_key(section, k, byte),
+        State::Begin(section) => at_line(section, byte),
+        State::Name(section, length, opened) => in_name(section, length, opened, byte),
+        State::Closed(opened) => behind_item(NEED, opened, byte),
+        State::Number(digits) => in_number(digits, byte),
+        State::Done => State::Wrong,
+        State::Wrong => State::Wrong,
+    }
+}
+
+// So many bytes of a key stand.
+fn in_key(section: usize, k: usize, byte: u8) -> State
+    requires { ⌜ k < length (keyOf section) ⌝ }
+    ensures { λ r. ⌜ r ≡ inKey section k byte ⌝ }
+{
+    if section == COLUMNS {
+        return along(b"columns=", section, k, byte);
+    }
+    if section == FORBID {
+        return along(b"forbid=", section, k, byte);
+    }
+    if section == NEED {
+        return along(b"need=", section, k, byte);
+    }
+    along(b"end=", section, k, byte)
+}
+
+// The next byte must be the key's next one.
+fn along(key: &[u8], section: usize, k: usize, byte: u8) -> State
+    requires { ⌜ k < length (now key) ⌝ }
+    ensures { λ r. ⌜ r ≡ alongKey (now (key .entry)) section k byte ⌝ }
+{
+    if byte != key[k] {
+        return State::Wrong;
+    }
+    if k + 1 < key.len() {
+        return State::Key(section, k + 1);
+    }
+    value(section)
+}
+
+// What must come behind a key.
+fn value(section: usize) -> State
+    ensures { λ r. ⌜ r ≡ valueOf section ⌝ }
+{
+    if section < END {
+        State::Name(section, 0, 0)
+    } else {
+        State::Number(0)
+    }
+}
+
+// A line begins. The first byte of a key tells which; no forbid line comes behind a need line.
+fn at_line(section: usize, byte: u8) -> State
+    ensures { λ r. ⌜ r ≡ atLine section byte ⌝ }
+{
+    if byte == b'f' {
+        return if section < NEED {
+            State::Key(FORBID, 1)
+        } else {
+            State::Wrong
+        };
+    }
+    if byte == b'n' {
+        return State::Key(NEED, 1);
+    }
+    if byte == b'e' {
+        return State::Key(END, 1);
+    }
+    State::Wrong
+}
+
+// So many bytes of a name stand.
+fn in_name(section: usize, length: usize, opened: usize, byte: u8) -> State
+    ensures { λ r. ⌜ r ≡ nameOn section length opened byte ⌝ }
+{
+    if length == 0 {
+        return at_item(section, opened, byte);
+    }
+    if !name_byte(byte) {
+        return behind_item(section, opened, byte);
+    }
+    if length < MOST_NAME_BYTES {
+        return State::Name(section, length + 1, opened);
+    }
+    State::Wrong
+}
+
+// A name must come, or in a need an opening bracket.
+fn at_item(section: usize, opened: usize, byte: u8) -> State
+    ensures { λ r. ⌜ r ≡ atItem section opened byte ⌝ }
+{
+    if letter(byte) {
+        return State::Name(section, 1, opened);
+    }
+    if byte != b'(' {
+        return State::Wrong;
+    }
+    if section != NEED {
+        return State::Wrong;
+    }
+    if opened < MOST_BRACKETS {
+        return State::Name(section, 0, opened + 1);
+    }
+    State::Wrong
+}
+
+// A name or a closing bracket has ended. Outside needs no bracket is ever open, so none can be closed there.
+fn behind_item(section: usize, opened: usize, byte: u8) -> State
+    ensures { λ r. ⌜ r ≡ behindItem section opened byte ⌝ }
+{
+    if joins(section, byte) {
+        return State::Name(section, 0, opened);
+    }
+    if byte == b')' {
+        return if opened == 0 {
+            State::Wrong
+        } else {
+            State::Closed(opened - 1)
+        };
+    }
+    if byte == LINE_END {
+        return if opened == 0 {
+            State::Begin(section)
+        } else {
+            State::Wrong
+        };
+    }
+    State::Wrong
+}
+
+// Two digits never start with 0.
+fn in_number(digits: usize, byte: u8) -> State
+    ensures { λ r. ⌜ r ≡ inNumber digits byte ⌝ }
+{
+    if byte == LINE_END {
+        return if digits == 0 {
+            State::Wrong
+        } else {
+            State::Done
+        };
+    }
+    if !digit(byte) {
+        return State::Wrong;
+    }
+    if digits == 0 {
+        return if byte == b'0' {
+            State::Number(1)
+        } else {
+            State::Number(2)
+        };
+    }
+    if digits == 2 {
+        return State::Number(3);
+    }
+    State::Wrong
+}
+
+// Whether the byte joins the names or items of a section.
+fn joins(section: usize, byte: u8) -> bool
+    ensures { λ r. ⌜ r ≡ joining section byte ⌝ }
+{
+    if byte == b',' {
+        return section == COLUMNS;
+    }
+    if byte == b'+' {
+        return section == FORBID;
+    }
+    if byte == b'&' || byte == b'|' {
+        return section == NEED;
+    }
+    false
+}
+
+fn name_byte(byte: u8) -> bool
+    ensures { λ r. ⌜ r ≡ inName byte ⌝ }
+{
+    letter(byte) || digit(byte)
+}
+
+fn letter(byte: u8) -> bool
+    ensures { λ r. ⌜ r ≡ letterByte byte ⌝ }
+{
+    b'a' <= byte && byte <= b'z'
+}
+
+fn digit(byte: u8) -> bool
+    ensures { λ r. ⌜ r ≡ digitByte byte ⌝ }
+{
+    b'0' <= byte && byte <= b'9'
+}

@@ -1,0 +1,4 @@
+-- What the proofs of naming share, and what those who walk over names need.
+pub mod Walks
+pub mod Sought
+pub mod Laid

@@ -1,0 +1,2 @@
+-- What the contracts of naming cite besides the rules.
+pub mod Words

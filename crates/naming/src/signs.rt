@@ -1,0 +1,27 @@
+// The bytes of a job text.
+ghost use mathlib.Core.Path.{_≡_};
+ghost use Rattle.rules.specs.Signs.{byteAt, inName};
+ghost use Rattle.naming.specs.Words.{isSign};
+
+pub const LINE_END: u8 = b'\n';
+
+// The byte at a place; 0 past the end, which is no byte of a job text. So no caller has to ask for the length.
+pub fn byte(text: &[u8], at: usize) -> u8
+    ensures { λ r. ⌜ r ≡ byteAt (now (text .entry)) at ⌝ }
+{
+    if at < text.len() { text[at] } else { 0 }
+}
+
+// Whether a byte can stand in a name.
+pub fn in_name(sign: u8) -> bool
+    ensures { λ r. ⌜ r ≡ inName sign ⌝ }
+{
+    (b'a' <= sign && sign <= b'z') || (b'0' <= sign && sign <= b'9')
+}
+
+// Whether a byte stands between the names of a line.
+pub fn is_sign(sign: u8) -> bool
+    ensures { λ r. ⌜ r ≡ isSign sign ⌝ }
+{
+    !in_name(sign) && sign != LINE_END
+}

@@ -1,0 +1,2 @@
+-- What the contracts of phrases cite besides the rules.
+pub mod Readers

@@ -1,0 +1,121 @@
+-- What the promise of the call says: one answer for each text, which refusal comes when and at which place, and what a text without a fault gives.
+-- Assumes nothing.
+use mathlib.Core.Path.{_≡_, sym, ap, _∙_}
+use mathlib.Core.Bool.{false}
+use mathlib.Core.List.{List, [], map}
+use mathlib.Core.Logic.{_↔_}
+use mathlib.Core.Option.{none, some}
+use Prim.Native.Nat.{ℕ, _≤_, _<_}
+use native.Mathlib.Omega.{arith}
+use lib.ListN.{length}
+use Rattle.rules.specs.Numbers.{unfit, jobOf}
+use Rattle.rules.specs.Refusals.{textTooLong, textNotOfForm}
+use Rattle.rules.specs.Texts.{Sheet, OfForm, StopsAt}
+use Rattle.rules.specs.Sheets.{sheetFault, needIn, numbersOf, namesOf}
+use Rattle.rules.specs.Readings.{mostBytes, Reading, refused, taken, Reads, of-form}
+use Rattle.rules.proofs.Sheets.{sheet-fit, sheet-job}
+use Rattle.rules.proofs.Readings.{one-reading, reading-taken, refused-some, Faulty, taken-exactly, too-long-exactly, not-of-form-exactly, faulty-exactly}
+use Rattle.job.specs.Records.{numbersIn, noJob}
+use Rattle.job.proofs.Records.{fit-numbers}
+use Rattle.text.specs.declared.JobRead.{JobRead}
+use Rattle.text.specs.Tables.{nameTable}
+use Rattle.text.specs.Promises.{readOf, Takes, Right}
+
+-- two answers that the promise allows are equal
+pub one-answer : {s : List ℕ} {r t : JobRead} → Takes s r → Takes s t → r ≡ t
+one-answer a b = a .answered ∙ ap readOf (one-reading (a .reads) (b .reads)) ∙ sym (b .answered)
+
+-- a text that was read: what it says, and that this is of the form and without a fault; the numbers of the answer's job are the text's, they are
+-- fit, and they stand for the job that the text says; the names are those of its columns
+pub record Taken (s : List ℕ) (r : JobRead) : Type 0 where
+  pub sheet : Sheet
+  pub form : OfForm s sheet
+  pub right : sheetFault sheet ≡ none
+  pub numbers : numbersIn (r .job) ≡ numbersOf sheet
+  pub fit : unfit (numbersIn (r .job)) ≡ false
+  pub job : jobOf (numbersIn (r .job))
+      ≡ some (record {
+        columns = length (sheet .columns);
+        forbidden = numbersOf sheet .forbidden;
+        needs = map (λ l. needIn (sheet .columns) (l .value)) (sheet .needs);
+      })
+  pub names : r .names ≡ nameTable (namesOf sheet)
+
+through : {A B C : Type 0} → A ↔ B → B ↔ C → A ↔ C
+through f g = (λ x. g .0 (f .0 x), λ x. f .1 (g .1 x))
+
+module _ {s : List ℕ} {r : JobRead} (a : Takes s r) where
+  answer-as : {w : Reading} → Reads s w → r ≡ readOf w
+  answer-as b = a .answered ∙ ap readOf (one-reading (a .reads) b)
+
+  reading-as : (r .refusal ≡ 0 → ⊥) → Reads s (refused (r .refusal) (r .place))
+  reading-as n = go (a .reading) (a .reads) (a .answered)
+    where
+      go : (w : Reading) → Reads s w → r ≡ readOf w → Reads s (refused (r .refusal) (r .place))
+      go (refused number place) b e = rw e b
+      go (taken q names) b e = absurd (n (ap (λ (t : JobRead). t .refusal) e))
+
+  -- "A refused text returns the number, the place and a job with no columns, sets or marks", and no names
+  pub refused-empty : (r .refusal ≡ 0 → ⊥) → (r .job ≡ noJob) × (r .names ≡ nameTable [])
+  refused-empty n =
+      let e = answer-as (reading-as n) in
+      (ap (λ (t : JobRead). t .job) e, ap (λ (t : JobRead). t .names) e)
+
+  -- this number at this place
+  abbrev pub Refuses : ℕ → ℕ → Type 0
+  Refuses number p = (r .refusal ≡ number) × (r .place ≡ p)
+
+  refuses : (number p : ℕ) → (number ≡ 0 → ⊥) → Refuses number p ↔ Reads s (refused number p)
+  refuses number p n = (to, from)
+    where
+      to : Refuses number p → Reads s (refused number p)
+      to e = rw (← e .0, ← e .1) (reading-as (λ z. n (sym (e .0) ∙ z)))
+
+      from : Reads s (refused number p) → Refuses number p
+      from b = let e = answer-as b in (ap (λ (t : JobRead). t .refusal) e, ap (λ (t : JobRead). t .place) e)
+
+  -- 1 exactly if the text is over 8,192 bytes, and then at 8192
+  pub long-refused : (p : ℕ) → Refuses textTooLong p ↔ ((mostBytes < length s) × (p ≡ mostBytes))
+  long-refused p = through (refuses textTooLong p (λ z. omega arith)) (too-long-exactly s p)
+
+  -- else 2 exactly if the text is not of the form, at the first byte after which no continuation could be, or at the text's end
+  pub form-refused : (p : ℕ) → Refuses textNotOfForm p ↔ ((length s ≤ mostBytes) × StopsAt s p)
+  form-refused p = through (refuses textNotOfForm p (λ z. omega arith)) (not-of-form-exactly s p)
+
+  -- else 3, 4, 5 or 6 exactly if what the text says has that fault at that place
+  pub fault-refused : (number p : ℕ) → 2 < number → Refuses number p ↔ Faulty s number p
+  fault-refused number p h = through (refuses number p (λ z. omega arith)) (faulty-exactly s number p h)
+
+  answer-of : (sheet : Sheet) → length s ≤ mostBytes → OfForm s sheet → sheetFault sheet ≡ none → r ≡ readOf (taken (numbersOf sheet) (namesOf sheet))
+  answer-of sheet short form right =
+      answer-as {w = taken (numbersOf sheet) (namesOf sheet)} (rw (← (reading-taken sheet right)) (of-form sheet short form))
+
+  -- a text is read exactly if it is not too long, of the form and without a fault
+  pub read-exactly : (r .refusal ≡ 0) ↔ ((length s ≤ mostBytes) × Right s)
+  read-exactly = (to, from)
+    where
+      go : (w : Reading) → Reads s w → r ≡ readOf w → r .refusal ≡ 0 → (length s ≤ mostBytes) × Right s
+      go (refused number p) b e z = absurd (refused-some b (sym (ap (λ (t : JobRead). t .refusal) e) ∙ z))
+      go (taken q names) b e z = let k = taken-exactly s q names .0 b in (k .short, (k .sheet, k .form, k .right))
+
+      to : r .refusal ≡ 0 → (length s ≤ mostBytes) × Right s
+      to = go (a .reading) (a .reads) (a .answered)
+
+      from : (length s ≤ mostBytes) × Right s → r .refusal ≡ 0
+      from h = ap (λ (t : JobRead). t .refusal) (answer-of (h .1 .0) (h .0) (h .1 .1) (h .1 .2))
+
+  -- and then the answer is what it says
+  pub is-taken : (sheet : Sheet) → length s ≤ mostBytes → OfForm s sheet → sheetFault sheet ≡ none → Taken s r
+  is-taken sheet short form right =
+      let e = answer-of sheet short form right in
+      let fit : unfit (numbersOf sheet) ≡ false = sheet-fit s sheet form right in
+      let held : numbersIn (r .job) ≡ numbersOf sheet = ap (λ (t : JobRead). numbersIn (t .job)) e ∙ fit-numbers (numbersOf sheet) fit in
+      record {
+        sheet = sheet;
+        form = form;
+        right = right;
+        numbers = held;
+        fit = rw held fit;
+        job = rw held (sheet-job s sheet form right);
+        names = ap (λ (t : JobRead). t .names) e;
+      }

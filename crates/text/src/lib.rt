@@ -1,0 +1,90 @@
+// A job text: any bytes in, the refusal with its place or the job out.
+use faults::first_fault;
+use faults::numbers::TEXT_NOT_OF_FORM;
+use faults::numbers::TEXT_TOO_LONG;
+use faults::sections::sections;
+use form::Formed;
+use form::form;
+use job::Job;
+use job::load;
+use table::NAMES;
+
+mod table; // table.rt: the names of the columns
+mod sets; // sets.rt: the forbidden sets
+mod needs; // needs.rt: the marks of the needs
+
+ghost use mathlib.Core.Path.{_≡_};
+ghost use mathlib.Core.Option.{none};
+ghost use Rattle.rules.specs.Texts.{Sheet, OfForm};
+ghost use Rattle.rules.specs.Sheets.{sheetFault};
+ghost use Rattle.rules.specs.Readings.{refused as refusedWith, readingOf};
+ghost use Rattle.text.specs.Promises.{Right, Takes, readOf};
+
+// "Job text at most 8,192 bytes."
+pub const MOST_BYTES: usize = 8192;
+
+// "Forbidden sets 0 to 32." Eight needs of 63 marks and an end mark each are 512.
+const MOST_FORBIDDEN: usize = 32;
+
+const MOST_MARKS: usize = 512;
+
+// The refusal's number and place, and a job with no columns, sets or marks; or 0, 0, the job, and the names of its columns, 12 bytes for each. Every
+// place without a number or a byte is 0.
+pub struct JobRead {
+    pub refusal: u16,
+    pub place: usize,
+    pub job: Job,
+    pub names: [u8; NAMES],
+}
+
+fn refused(refusal: u16, place: usize) -> JobRead
+    ensures { λ r. ⌜ r ≡ readOf (refusedWith refusal place) ⌝ }
+{
+    let unfit = job::unfit();
+    let job = unfit.job;
+    JobRead {
+        refusal,
+        place,
+        job,
+        names: [0u8; NAMES],
+    }
+}
+
+// The job of a text without a fault.
+fn taken(text: &[u8]) -> JobRead
+    requires { ⌜ Right (now text) ⌝ }
+    ensures { λ r. ⌜ ((sheet : Sheet) → OfForm (now (text .entry)) sheet → sheetFault sheet ≡ none → r ≡ readOf (readingOf sheet)) ⌝ }
+{
+    let places = sections(text);
+    let table = table::name_table(text);
+    let mut forbidden = [0u16; MOST_FORBIDDEN];
+    let count = sets::forbidden_sets(text, places.forbids, &mut forbidden);
+    let mut marks = [0u16; MOST_MARKS];
+    let marked = needs::need_marks(text, places.needs, &mut marks);
+    let loaded = load(table.columns, &forbidden[..count], &marks[..marked]);
+    let job = loaded.job;
+    let names = table.names;
+    JobRead {
+        refusal: 0,
+        place: 0,
+        job,
+        names,
+    }
+}
+
+pub fn read(text: &[u8]) -> JobRead
+    ensures { λ r. ⌜ Takes (now (text .entry)) r ⌝ }
+{
+    if MOST_BYTES < text.len() {
+        return refused(TEXT_TOO_LONG, MOST_BYTES);
+    }
+    let formed = form(text);
+    if let Formed::Stops(place) = formed {
+        return refused(TEXT_NOT_OF_FORM, place);
+    }
+    let fault = first_fault(text);
+    if fault.number != 0 {
+        return refused(fault.number, fault.place);
+    }
+    taken(text)
+}

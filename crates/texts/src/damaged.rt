@@ -1,0 +1,115 @@
+// Texts with one byte left out, put in or changed. What they give is added up.
+use crate::answers;
+use crate::repeats::put;
+use crate::spelling::ROOM;
+use naming::signs::byte;
+use std::num::wrapping_add_usize;
+use text::JobRead;
+use worked::print;
+use worked::random::next;
+ghost use Prim.Native.Nat.{_≤_};
+ghost use lib.ListN.{length as lengthOf};
+
+// How many damaged texts are made of each text.
+const EACH: usize = 60;
+
+// Where the row of random numbers stands, and what has been added up.
+pub struct Sums {
+    pub state: u64,
+    pub texts: usize,
+    pub refusals: usize,
+    pub places: usize,
+    pub checksum: usize,
+}
+
+pub fn begin() -> Sums {
+    Sums {
+        state: 2685821657736338717,
+        texts: 0,
+        refusals: 0,
+        places: 0,
+        checksum: 0,
+    }
+}
+
+pub fn show(sums: Sums) {
+    print::named(b"damaged texts", sums.texts);
+    print::named(b": refusals", sums.refusals);
+    print::named(b", places", sums.places);
+    print::named(b", checksum", sums.checksum);
+    print::line();
+}
+
+// With the damaged texts of one text.
+pub fn more(sums: Sums, text: &[u8]) -> Sums {
+    let mut added = sums;
+    let mut i: usize = 0;
+    while i < EACH {
+        added = one_more(added, text);
+        i += 1;
+    }
+    added
+}
+
+fn one_more(sums: Sums, text: &[u8]) -> Sums {
+    let drawn = next(sums.state);
+    let mut other = [0u8; ROOM];
+    let length = damage(text, drawn, &mut other);
+    with_answer(sums, drawn, text::read(&other[..length]))
+}
+
+fn with_answer(sums: Sums, drawn: u64, read: JobRead) -> Sums {
+    Sums {
+        state: drawn,
+        texts: wrapping_add_usize(sums.texts, 1),
+        refusals: wrapping_add_usize(sums.refusals, read.refusal as usize),
+        places: wrapping_add_usize(sums.places, read.place),
+        checksum: answers::of_answer(sums.checksum, read),
+    }
+}
+
+// The bytes that are put in: those of the form, and some that are not.
+fn sign(drawn: u64) -> u8 {
+    byte(
+        b"aabcdefnoz0199=,+&|()\n\n\n\r A_~-\x00\xc3",
+        (drawn % 32) as usize,
+    )
+}
+
+// A place of a text, or its end.
+fn place_of(text: &[u8], drawn: u64) -> usize
+    ensures { λ r. ⌜ r ≤ lengthOf (now (text .entry)) ⌝ }
+{
+    (drawn % (text.len() as u64 + 1)) as usize
+}
+
+// Writes a text with one byte left out, put in or changed, and says how many bytes it has.
+fn damage(text: &[u8], drawn: u64, other: &mut [u8]) -> usize
+    ensures { λ r. ⌜ r ≤ lengthOf (now (other .entry)) ⌝ }
+{
+    let place = place_of(text, drawn);
+    let kind = drawn / 1048576 % 3;
+    let before = copied(text, 0, place, other, 0);
+    if kind == 0 {
+        return copied(text, place + 1, text.len(), other, before);
+    }
+    let length = put(other, before, sign(drawn / 16777216));
+    if kind == 1 {
+        return copied(text, place, text.len(), other, length);
+    }
+    copied(text, place + 1, text.len(), other, length)
+}
+
+// The bytes of a text from one place to another put behind those that stand, as far as there is room.
+fn copied(text: &[u8], from: usize, to: usize, other: &mut [u8], before: usize) -> usize
+    requires { ⌜ (to ≤ lengthOf (now text)) × (before ≤ lengthOf (now other)) ⌝ }
+    ensures { λ r. ⌜ r ≤ lengthOf (now (other .entry)) ⌝ }
+{
+    let mut length = before;
+    let mut i = from;
+    while i < to {
+        length = put(other, length, text[i]);
+        i += 1;
+    }
+    length
+}

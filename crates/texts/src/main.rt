@@ -1,0 +1,36 @@
+// Worked cases of reading a job text. Standard input has a case a line, its name and its text; what they give is compared with `stdout`.
+mod answers; // answers.rt: one call, and its line
+mod damaged; // damaged.rt: texts with one byte left out, put in or changed
+mod repeats; // repeats.rt: bytes that stand often
+mod spelling; // spelling.rt: how a case spells the bytes of its text
+
+use libc::STDIN_FILENO;
+use naming::words::line_end;
+ghost use Prim.Native.Nat.{_≤_};
+ghost use lib.ListN.{length as lengthOf};
+
+fn main() {
+    let mut input = io::large_buffer();
+    let length = io::read_full(STDIN_FILENO, &mut input);
+    run(&input[..length]);
+}
+
+fn run(input: &[u8]) {
+    let mut sums = damaged::begin();
+    let mut from = 0;
+    while from < input.len() {
+        sums = one_case(input, from, sums);
+        from = line_end(input, from) + 1;
+    }
+    damaged::show(sums);
+}
+
+fn one_case(input: &[u8], from: usize, sums: damaged::Sums) -> damaged::Sums
+    requires { ⌜ from ≤ lengthOf (now input) ⌝ }
+{
+    let named = spelling::name_end(input, from);
+    let mut text = [0u8; spelling::ROOM];
+    let length = spelling::spell(input, named, &mut text);
+    answers::show(&input[from..named], &text[..length]);
+    damaged::more(sums, &text[..length])
+}

@@ -1,0 +1,43 @@
+// Bytes put behind those of a text, once or often. Where a text is full, nothing is put.
+ghost use Prim.Native.Nat.{_≤_};
+ghost use lib.ListN.{length as lengthOf};
+
+pub fn put(text: &mut [u8], length: usize, sign: u8) -> usize
+    requires { ⌜ length ≤ lengthOf (now text) ⌝ }
+    ensures { λ r. ⌜ r ≤ lengthOf (now (text .entry)) ⌝ }
+{
+    if text.len() <= length {
+        return length;
+    }
+    text[length] = sign;
+    length + 1
+}
+
+// The bytes of a text from a place on, put behind it until they stand so many times.
+pub fn repeat(text: &mut [u8], from: usize, length: usize, times: usize) -> usize
+    requires { ⌜ length ≤ lengthOf (now text) ⌝ }
+    ensures { λ r. ⌜ r ≤ lengthOf (now (text .entry)) ⌝ }
+{
+    let mut end = length;
+    let mut done: usize = 1;
+    while done < times {
+        end = again(text, from, length, end);
+        done += 1;
+    }
+    end
+}
+
+// The bytes from one place to another, put behind a text once more.
+fn again(text: &mut [u8], from: usize, to: usize, length: usize) -> usize
+    requires { ⌜ (to ≤ lengthOf (now text)) × (length ≤ lengthOf (now text)) ⌝ }
+    ensures { λ r. ⌜ r ≤ lengthOf (now (text .entry)) ⌝ }
+{
+    let mut end = length;
+    let mut i = from;
+    while i < to {
+        let sign = text[i];
+        end = put(text, end, sign);
+        i += 1;
+    }
+    end
+}
