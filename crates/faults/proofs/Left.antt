@@ -8,7 +8,7 @@ use lib.ListN.{length}
 use Rattle.rules.specs.Signs.{byteAt, inName}
 use Rattle.rules.specs.Names.{Spot, spot, Run, Name}
 use Rattle.rules.specs.Texts.{Line, line}
-use Rattle.rules.proofs.Names.{inside}
+use Rattle.rules.proofs.Signs.{inside}
 use Rattle.naming.specs.Words.{isSign, Skips, Between, nothing, sign, word, Words, Rows, no-row, one-row}
 use Rattle.naming.proofs.Walks.{between-forward, between-append, words-skips, words-stops, words-some, words-name, words-later, words-end}
 use Rattle.faults.specs.Kinds.{beginsOf, widthOf}

@@ -7,13 +7,14 @@ use Prim.Native.Nat.{ℕ, _+_, _-_, _*_, _<_, _≤_}
 use native.Mathlib.Omega.{arith}
 use lib.ListN.{length, length-map}
 use borrow.Author.Tests.{eq-eqb, ne-eqb, leb-true}
-use Rattle.rules.specs.Signs.{byteAt, Says, says-byte, digit, lineEnd}
+use Rattle.rules.specs.Signs.{byteAt, digit, lineEnd}
 use Rattle.rules.specs.Refusals.{tooMany}
 use Rattle.rules.specs.Names.{Spot}
 use Rattle.rules.specs.Phrases.{Formula, namesIn}
 use Rattle.rules.specs.Texts.{Line, line, Number, one-digit, two-digits, Sheet, OfForm}
-use Rattle.rules.specs.Sheets.{refusal, over, nameAfter, lineAfter, firstFault, linesFault, columnFault, forbidFault, needFault, namesFault, endFault}
+use Rattle.rules.specs.Sheets.{refusal, firstOver, nameAfter, lineAfter, firstNameFault, linesFault, columnFault, forbidFault, needFault, namesFault, linesIn, endFault}
 use Rattle.rules.proofs.Lists.{and-parts}
+use Rattle.rules.proofs.Signs.{says-first}
 use Rattle.naming.specs.Words.{Rows, no-row, one-row}
 use Rattle.naming.proofs.Laid.{laid, laid-forbids, laid-needs}
 use Rattle.faults.specs.Kinds.{rowsOver, Walks, Sectioned}
@@ -47,10 +48,6 @@ number-two (two-digits e f g) i h = refl
 
 -- ---- the lines
 
--- the first byte that is said
-first-said : {s : List ℕ} {p b : ℕ} {bytes : List ℕ} → Says s p (b ∷ bytes) → byteAt s p ≡ b
-first-said (says-byte e says) = e
-
 -- rows begin with their byte, or there are none
 rows-begin : {s : List ℕ} {begins width p q : ℕ} {rows : List (Line (List Spot))} → Rows s begins width p q rows
     → (b : ℕ) → (begins ≡ b → ⊥) → (byteAt s q ≡ b → ⊥) → byteAt s p ≡ b → ⊥
@@ -61,9 +58,9 @@ module _ {s : List ℕ} {sheet : Sheet} (form : OfForm s sheet) where
   -- the line of the columns is the only one of its kind
   pub columns-row : Rows s 99 8 0 (form .columnsTo + 1) (line 0 (sheet .columns) ∷ [])
   columns-row =
-      let end : byteAt s (form .endFrom) ≡ 99 → ⊥ = λ e. let z = sym (first-said (form .endSaid)) ∙ e in omega arith in
+      let end : byteAt s (form .endFrom) ≡ 99 → ⊥ = λ e. let z = sym (says-first (form .endSaid) .0) ∙ e in omega arith in
       let needs : byteAt s (form .needsFrom) ≡ 99 → ⊥ = rows-begin (laid-needs form) 99 (λ e. omega arith) end in
-      one-row (first-said (form .columnsSaid)) (laid form .columns) (no-row (rows-begin (laid-forbids form) 99 (λ e. omega arith) needs))
+      one-row (says-first (form .columnsSaid) .0) (laid form .columns) (no-row (rows-begin (laid-forbids form) 99 (λ e. omega arith) needs))
 
   -- walks over the lines of each kind, each from where the one before ended, find where they stand
   pub sectioned : {a b d : Walked} → ((q : ℕ) (rows : List (Line (List Spot))) → Rows s 99 8 0 q rows → Walks q rows a)
@@ -92,7 +89,7 @@ module _ {s : List ℕ} {sheet : Sheet} (form : OfForm s sheet) {places : Places
 
   -- the end line lies within the text
   pub end-inside : places .end < length s
-  end-inside = rw (at .end) (byte-inside s (first-said (form .endSaid)) (λ z. absurd (omega arith)))
+  end-inside = rw (at .end) (byte-inside s (says-first (form .endSaid) .0) (λ z. absurd (omega arith)))
 
   module _ {n : ℕ} (read : (q k : ℕ) → Number s (places .end + 4) q k → byteAt s q ≡ lineEnd → n ≡ k) where
     -- the number read is the sheet's
@@ -102,32 +99,32 @@ module _ {s : List ℕ} {sheet : Sheet} (form : OfForm s sheet) {places : Places
     -- the number at the end is right
     pub end-same : n ≡ places .lines → none ≡ endFault sheet
     unfolding endFault
-    end-same e = sym (rw (eq-eqb (sheet .ended .value) (length (sheet .forbids) + length (sheet .needs)) (sym end-number ∙ e ∙ at .lines)))
+    end-same e = sym (rw (eq-eqb (sheet .ended .value) (linesIn sheet) (sym end-number ∙ e ∙ at .lines)))
 
     -- or another
     pub end-other : (n ≡ places .lines → ⊥) → some (refusal 6 (places .end + 4)) ≡ endFault sheet
     unfolding endFault
     end-other f =
-        let g : sheet .ended .value ≡ length (sheet .forbids) + length (sheet .needs) → ⊥ = λ e. f (end-number ∙ e ∙ sym (at .lines)) in
+        let g : sheet .ended .value ≡ linesIn sheet → ⊥ = λ e. f (end-number ∙ e ∙ sym (at .lines)) in
         let e : places .end + 4 ≡ sheet .ended .place = ap (λ (p : ℕ). p + 4) (at .end) ∙ sym (form .ended) in
-        rw (ne-eqb (sheet .ended .value) (length (sheet .forbids) + length (sheet .needs)) g, e)
+        rw (ne-eqb (sheet .ended .value) (linesIn sheet) g, e)
 
 -- ---- what can be at fault, part by part
 
 -- more than there may be: the columns, the forbid lines, the need lines
-pub over-parts : (sheet : Sheet) → Option·map (refusal tooMany) (over sheet)
+pub over-parts : (sheet : Sheet) → Option·map (refusal tooMany) (firstOver sheet)
     ≡ orElse (Option·map (refusal tooMany) (nameAfter 16 (sheet .columns)))
     (orElse (Option·map (refusal tooMany) (lineAfter 32 (sheet .forbids)))
     (Option·map (refusal tooMany) (rowsOver 8 (map (λ l. line (l .place) (namesIn (l .value))) (sheet .needs)))))
-unfolding over
+unfolding firstOver
 over-parts sheet =
     rw (needs-rows 8 (sheet .needs))
     (map-first (refusal tooMany) _ _ ∙ rw (map-first (refusal tooMany) (lineAfter 32 (sheet .forbids)) _))
 
 -- with no more than there may be there are at most 16 columns
-pub few-columns : (sheet : Sheet) → Option·map (refusal tooMany) (over sheet) ≡ none → length (sheet .columns) ≤ 16
-unfolding over
-few-columns sheet e = few-names 16 (sheet .columns) (no-first _ _ (map-eq-none-iff (refusal tooMany) (over sheet) .0 e))
+pub few-columns : (sheet : Sheet) → Option·map (refusal tooMany) (firstOver sheet) ≡ none → length (sheet .columns) ≤ 16
+unfolding firstOver
+few-columns sheet e = few-names 16 (sheet .columns) (no-first _ _ (map-eq-none-iff (refusal tooMany) (firstOver sheet) .0 e))
 
 -- the lines of the names of need lines
 need-names : (lines : List (Line Formula))
@@ -141,4 +138,4 @@ pub names-parts : (sheet : Sheet) → namesFault sheet
     (orElse (linesFault (forbidFault (sheet .columns)) (map (λ l. l .value) (sheet .forbids)))
     (linesFault (needFault (sheet .columns)) (map (λ l. l .value) (map (λ l. line (l .place) (namesIn (l .value))) (sheet .needs)))))
 unfolding namesFault linesFault
-names-parts sheet = rw (need-names (sheet .needs), first-only (firstFault columnFault [] (sheet .columns)))
+names-parts sheet = rw (need-names (sheet .needs), first-only (firstNameFault columnFault [] (sheet .columns)))

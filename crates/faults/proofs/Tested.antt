@@ -9,7 +9,7 @@ use lib.ListN.{length}
 use Rattle.rules.specs.Lists.{anyOf, firstWhere}
 use Rattle.rules.specs.Names.{Spot, sameName}
 use Rattle.rules.specs.Texts.{Line}
-use Rattle.rules.specs.Sheets.{columnOf, standsIn, firstFault, linesFault, columnFault, needFault, forbidFault}
+use Rattle.rules.specs.Sheets.{columnOf, standsIn, firstNameFault, linesFault, columnFault, needFault, forbidFault}
 use Rattle.rules.proofs.Lists.{none-first}
 use Rattle.naming.specs.Words.{Between}
 use Rattle.faults.specs.Refused.{numberIn, refusalIn}
@@ -79,31 +79,31 @@ forbid-known columns before x e z = rw (no-number e z)
 
 module _ (fault : List Spot → Spot → Option ℕ) (before : List Spot) (x : Spot) (names : List Spot) {n : ℕ} (e : numberIn n ≡ fault before x) where
   -- the first name is at fault
-  pub first-faulty : (n ≡ 0 → ⊥) → refusalIn (record { number = n; place = x .place }) ≡ firstFault fault before (x ∷ names)
-  unfolding firstFault orElse
+  pub first-faulty : (n ≡ 0 → ⊥) → refusalIn (record { number = n; place = x .place }) ≡ firstNameFault fault before (x ∷ names)
+  unfolding firstNameFault orElse
   first-faulty f = a-refusal _ f ∙ sym (rw (a-number e f))
 
   -- or the others are left
-  pub first-right : n ≡ 0 → firstFault fault before (x ∷ names) ≡ firstFault fault (before ++ (x ∷ [])) names
-  unfolding firstFault orElse
+  pub first-right : n ≡ 0 → firstNameFault fault before (x ∷ names) ≡ firstNameFault fault (before ++ (x ∷ [])) names
+  unfolding firstNameFault orElse
   first-right z = rw (no-number e z)
 
 -- none of the names before this place is at fault: the first fault of all is the first of those left
 pub record RightBefore (s : List ℕ) (fault : List Spot → Spot → Option ℕ) (from place : ℕ) (names later : List Spot) : Type 0 where
   pub before : List Spot
   pub between : Between s from place before
-  pub same : firstFault fault [] names ≡ firstFault fault before later
+  pub same : firstNameFault fault [] names ≡ firstNameFault fault before later
 
 -- with none left none is at fault
 pub all-right : {s : List ℕ} {fault : List Spot → Spot → Option ℕ} {from place : ℕ} {names : List Spot} → RightBefore s fault from place names []
-    → firstFault fault [] names ≡ none
-unfolding firstFault
+    → firstNameFault fault [] names ≡ none
+unfolding firstNameFault
 all-right right = right .same
 
 -- ---- lines of names
 
 module _ (fault : List Spot → Spot → Option ℕ) (f : Fault) (l : Line (List Spot)) (lines : List (Line (List Spot)))
-    (e : refusalIn f ≡ firstFault fault [] (l .value)) where
+    (e : refusalIn f ≡ firstNameFault fault [] (l .value)) where
   -- a name of the first line is at fault
   pub line-faulty : (f .number ≡ 0 → ⊥) → refusalIn f ≡ linesFault fault (map (λ l. l .value) (l ∷ lines))
   unfolding linesFault

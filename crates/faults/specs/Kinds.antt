@@ -7,7 +7,7 @@ use lib.ListN.{length}
 use Rattle.rules.specs.Numbers.{mostColumnMarks}
 use Rattle.rules.specs.Names.{Spot}
 use Rattle.rules.specs.Texts.{Line, Sheet, OfForm}
-use Rattle.rules.specs.Sheets.{nameAfter, columnFault, forbidFault, needFault}
+use Rattle.rules.specs.Sheets.{nameAfter, columnFault, forbidFault, needFault, linesIn}
 use Rattle.faults.specs.declared.sections.Section.{Section}
 use Rattle.faults.specs.declared.sections.Section.the-variants.{Columns, Forbid, Need}
 use Rattle.faults.specs.declared.sections.Walked.{Walked}
@@ -47,4 +47,4 @@ pub record Sectioned (s : List ℕ) (sheet : Sheet) (form : OfForm s sheet) (r :
   pub forbids : r .forbids ≡ form .columnsTo + 1
   pub needs : r .needs ≡ form .needsFrom
   pub end : r .end ≡ form .endFrom
-  pub lines : r .lines ≡ length (sheet .forbids) + length (sheet .needs)
+  pub lines : r .lines ≡ linesIn sheet

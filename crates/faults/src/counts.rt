@@ -18,7 +18,7 @@ ghost use Prim.Native.Nat.{ℕ};
 ghost use Rattle.rules.specs.Names.{Spot};
 ghost use Rattle.rules.specs.Refusals.{tooMany};
 ghost use Rattle.rules.specs.Texts.{Line, Sheet, OfForm};
-ghost use Rattle.rules.specs.Sheets.{refusal, nameAfter, lineAfter, over as overOf};
+ghost use Rattle.rules.specs.Sheets.{refusal, nameAfter, lineAfter, firstOver};
 ghost use Rattle.naming.specs.Words.{Words, Rows};
 ghost use Rattle.faults.specs.Refused.{refusalIn};
 ghost use Rattle.faults.specs.Kinds.{beginsOf, widthOf, rowsOver, Sectioned};
@@ -102,7 +102,7 @@ fn need_over(text: &[u8], from: usize) -> Fault
 
 pub fn over(text: &[u8], places: Places) -> Fault
     ensures { λ r. ⌜ ((sheet : Sheet) (form : OfForm (now (text .entry)) sheet) → Sectioned (now (text .entry)) sheet form places
-        → refusalIn r ≡ Option·map (refusal tooMany) (overOf sheet)) ⌝ }
+        → refusalIn r ≡ Option·map (refusal tooMany) (firstOver sheet)) ⌝ }
 {
     let column = name_over(text, width(Section::Columns), MOST_COLUMNS);
     if column.number != 0 {

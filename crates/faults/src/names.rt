@@ -23,7 +23,7 @@ ghost use lib.ListN.{length};
 ghost use Rattle.rules.specs.Signs.{byteAt, inName};
 ghost use Rattle.rules.specs.Names.{Spot, spot, Run};
 ghost use Rattle.rules.specs.Texts.{Line, Sheet, OfForm};
-ghost use Rattle.rules.specs.Sheets.{columnFault, needFault, firstFault, linesFault, namesFault};
+ghost use Rattle.rules.specs.Sheets.{columnFault, needFault, firstNameFault, linesFault, namesFault};
 ghost use Rattle.naming.specs.Words.{Between, Words, Rows, columnsFrom};
 ghost use Rattle.faults.specs.Refused.{numberIn, refusalIn};
 ghost use Rattle.faults.specs.Kinds.{beginsOf, widthOf, faultBy, Sectioned};
@@ -74,7 +74,7 @@ fn fault_of(text: &[u8], section: Section, from: usize, at: usize) -> u16
 // The first name at fault in a line, whose names stand from a place on.
 fn line_fault(text: &[u8], section: Section, from: usize) -> Fault
     ensures { λ r. ⌜ ((q to : ℕ) (columns names : List Spot) → Words (now (text .entry)) columnsFrom q columns → length columns ≤ 16
-        → Words (now (text .entry)) from to names → refusalIn r ≡ firstFault (faultBy section columns) [] names) ⌝ }
+        → Words (now (text .entry)) from to names → refusalIn r ≡ firstNameFault (faultBy section columns) [] names) ⌝ }
 {
     let mut place = next_name(text, from);
     while in_name(byte(text, place)) {

@@ -1,7 +1,7 @@
 -- Laws of the keys of lines. Assumes nothing.
 use mathlib.Core.Path.{_≡_, refl, subst}
 use mathlib.Core.Bool.{Bool, true, false, cond}
-use mathlib.Core.List.{List, _∷_}
+use mathlib.Core.List.{List}
 use Prim.Native.Nat.{ℕ, suc, _<_}
 use native.Mathlib.Omega.{arith}
 use lib.Dec.{ltb, eqb}
@@ -9,8 +9,9 @@ use lib.ListN.{length, getD}
 use lib.Seq.{drop-cons}
 use borrow.Author.Tests.{ltb-true, lt-ltb, le-ltb, eq-eqb}
 use Rattle.rules.specs.Lists.{every}
-use Rattle.rules.specs.Signs.{byteAt, Says, says-byte, columnsKey, forbidKey, needKey, endKey}
+use Rattle.rules.specs.Signs.{byteAt, Says, columnsKey, forbidKey, needKey, endKey}
 use Rattle.rules.proofs.Lists.{every-in, getD-in}
+use Rattle.rules.proofs.Signs.{says-first}
 use Rattle.form.specs.declared.machine.State.the-variants.{Key, Begin}
 use Rattle.form.specs.Machine.{keyOf, valueOf, along, step}
 
@@ -39,10 +40,6 @@ along-on key section k h = rw (eq-eqb (getD key k 0) (getD key k 0) refl, lt-ltb
 -- its last byte leads behind the key
 pub along-behind : (key : List ℕ) (section k : ℕ) → suc k ≡ length key → along key section k (getD key k 0) ≡ valueOf section
 along-behind key section k h = rw (eq-eqb (getD key k 0) (getD key k 0) refl, le-ltb (suc k) (length key) (omega arith))
-
--- of bytes that stand at a place the first stands there, the others behind it
-pub says-first : {s : List ℕ} {p b : ℕ} {bytes : List ℕ} → Says s p (b ∷ bytes) → (byteAt s p ≡ b) × Says s (suc p) bytes
-says-first (says-byte e more) = (e, more)
 
 -- where a key stands, its first byte stands
 pub key-said : (s : List ℕ) (section p : ℕ) → 0 < length (keyOf section) → Says s p (keyOf section) → byteAt s p ≡ getD (keyOf section) 0 0

@@ -70,7 +70,7 @@ module _ (s : List ℕ) where
         within = omega arith;
         before = λ j g. can-go-on j (λ w. f .right (f .at ∙ stays-wrong s j i g w));
         after = λ g. cannot-go-on (suc i) (ap (stateAt s) (sym (add-one i)) ∙ at);
-        not = no-form (i + 1) at;
+        otherForm = no-form (i + 1) at;
       }
 
   -- a text that leads to the end is of the form
@@ -83,5 +83,5 @@ module _ (s : List ℕ) where
     within = f .upTo;
     before = λ j g. can-go-on j (λ w. f .right (f .at ∙ stays-wrong s j i g w));
     after = λ g. absurd (omega arith);
-    not = λ formed. short (f .at ∙ state-all s i h ∙ form-done s formed);
+    otherForm = λ formed. short (f .at ∙ state-all s i h ∙ form-done s formed);
   }

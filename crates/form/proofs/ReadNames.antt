@@ -11,10 +11,10 @@ use lib.ListN.{length}
 use borrow.Author.Tests.{ltb-true, eqb-true, eqb-false}
 use Rattle.rules.specs.Signs.{byteAt, letter, inName, lineEnd, bracketOpen, bracketClose}
 use Rattle.rules.specs.Names.{Name as NameAt, Names, spot, last-name, more-names}
+use Rattle.rules.proofs.Signs.{letter-named}
 use Rattle.form.specs.declared.machine.State.{State}
 use Rattle.form.specs.declared.machine.State.the-variants.{Begin, Name, Done, Wrong}
 use Rattle.form.specs.Machine.{joining, behindItem, step, run, stateAt}
-use Rattle.form.proofs.Signs.{letter-named}
 use Rattle.form.proofs.Runs.{passed}
 use Rattle.form.proofs.Living.{LeadsToEnd, not-name, alive, within, goes, must, either}
 

@@ -12,7 +12,7 @@ use Rattle.rules.specs.Signs.{byteAt, Says, comma, plus, lineEnd}
 use Rattle.rules.specs.Names.{Names}
 use Rattle.rules.specs.Phrases.{list, ors, Stands}
 use Rattle.rules.specs.Texts.{HasForm}
-use Rattle.rules.proofs.Names.{inside}
+use Rattle.rules.proofs.Signs.{inside}
 use Rattle.form.specs.declared.machine.State.{State}
 use Rattle.form.specs.declared.machine.State.the-variants.{Begin, Name, Done}
 use Rattle.form.specs.Machine.{keyOf, step, run, stateAt}

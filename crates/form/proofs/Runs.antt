@@ -8,7 +8,7 @@ use native.Mathlib.Omega.{arith}
 use lib.ListN.{length, take}
 use lib.Seq.{take-all}
 use Rattle.rules.specs.Signs.{byteAt}
-use Rattle.rules.proofs.Names.{inside}
+use Rattle.rules.proofs.Signs.{inside}
 use Rattle.form.specs.declared.machine.State.{State}
 use Rattle.form.specs.declared.machine.State.the-variants.{Done, Wrong}
 use Rattle.form.specs.Machine.{step, begin, run, stateAt}

@@ -5,18 +5,9 @@ use Prim.Native.Nat.{ℕ}
 use native.Mathlib.Omega.{arith}
 use lib.Dec.{eqb}
 use borrow.Author.Tests.{eqb-true, ne-eqb}
-use Rattle.rules.specs.Signs.{letter, digit, inName, comma, plus, ampersand, bar}
+use Rattle.rules.specs.Signs.{digit, comma, plus, ampersand, bar}
 use Rattle.rules.specs.Phrases.{Join, ors, ands, signOf}
-use Rattle.rules.proofs.Lists.{or-left}
 use Rattle.form.specs.Machine.{joining}
-
--- a letter is a byte of a name
-pub letter-named : (b : ℕ) → letter b ≡ true → inName b ≡ true
-letter-named b e = or-left (letter b) (digit b) e
-
--- 0 is no byte of a name
-pub named-not-0 : (b : ℕ) → inName b ≡ true → b ≡ 0 → ⊥
-named-not-0 b e z = true≢false (sym e ∙ ap inName z)
 
 -- a digit is none of the bytes that are no digits
 pub digit-not : (b c : ℕ) → digit c ≡ false → digit b ≡ true → b ≡ c → ⊥

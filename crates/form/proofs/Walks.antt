@@ -14,12 +14,12 @@ use Rattle.rules.specs.Signs.{byteAt, lineEnd, comma, plus, ampersand, bar, bra
 use Rattle.rules.specs.Names.{Name as NameAt, Names, Spot, last-name, more-names}
 use Rattle.rules.specs.Phrases.{Kind, item, list, rest, Join, ors, ands, operand, signOf, Formula, Stands, first, last, next, name, bracketed}
 use Rattle.rules.specs.Texts.{Line, Lines, no-line, one-line, Number as NumberAt, one-digit, two-digits, HasForm}
-use Rattle.rules.proofs.Names.{inside}
+use Rattle.rules.proofs.Signs.{inside, letter-named, named-not-0, says-first}
 use Rattle.form.specs.declared.machine.State.{State}
 use Rattle.form.specs.declared.machine.State.the-variants.{Key, Begin, Name, Closed, Number, Done, Wrong}
 use Rattle.form.specs.Machine.{keyOf, valueOf, joining, behindItem, step, begin, run, stateAt}
-use Rattle.form.proofs.Signs.{letter-named, named-not-0, digit-not}
-use Rattle.form.proofs.Keys.{forbid-begins, key-byte, says-first, along-on, along-behind}
+use Rattle.form.proofs.Signs.{digit-not}
+use Rattle.form.proofs.Keys.{forbid-begins, key-byte, along-on, along-behind}
 use Rattle.form.proofs.Runs.{chosen, passed, state-next, state-by, state-all}
 
 module _ (s : List ℕ) where

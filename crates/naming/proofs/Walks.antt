@@ -10,18 +10,15 @@ use lib.Dec.{ltb}
 use lib.ListN.{length}
 use lib.Seq.{drop-cons}
 use borrow.Author.Tests.{eq-eqb, ne-eqb, ltb-true, ltb-false}
-use Rattle.rules.specs.Signs.{byteAt, piece, letter, digit, inName, lineEnd}
+use Rattle.rules.specs.Signs.{byteAt, piece, inName, lineEnd}
 use Rattle.rules.specs.Names.{Spot, spot, Run, Name, Names, last-name, more-names, sameName}
 use Rattle.rules.specs.Phrases.{Formula, namesIn, Join, ors, ands, signOf, joinOf, Kind, item, list, rest, operand, Stands, first, last, next, name, bracketed}
-use Rattle.rules.proofs.Lists.{holds-fails, or-left}
-use Rattle.rules.proofs.Names.{inside, run-unique, name-some}
+use Rattle.rules.proofs.Lists.{holds-fails}
+use Rattle.rules.proofs.Signs.{inside, letter-named, named-inside}
+use Rattle.rules.proofs.Names.{run-unique, name-some}
 use Rattle.naming.specs.Words.{isSign, Skips, Ends, Between, nothing, sign, word, Words}
 
 -- ---- bytes
-
--- a byte in a name lies within the text
-pub name-inside : (s : List ℕ) (p : ℕ) → inName (byteAt s p) ≡ true → p < length s
-name-inside s p e = inside s p (λ z. true≢false (sym e ∙ ap inName z))
 
 -- a byte that is no sign lies within the text
 pub no-sign-inside : (s : List ℕ) (p : ℕ) → isSign (byteAt s p) ≡ false → p < length s
@@ -86,7 +83,7 @@ piece-none s p = let e : p - p ≡ 0 = omega arith in rw e
 
 module _ {s : List ℕ} {p q : ℕ} (run : Run s p q) where
   run-piece : inName (byteAt s p) ≡ true → piece s p q ≡ byteAt s p ∷ piece s (p + 1) q
-  run-piece e = piece-some s p q (run-some run e) (name-inside s p e)
+  run-piece e = piece-some s p q (run-some run e) (named-inside s p e)
 
   run-empty : inName (byteAt s p) ≡ false → piece s p q ≡ []
   run-empty e = rw (run-none run e) (piece-none s p)
@@ -143,7 +140,7 @@ module _ {s : List ℕ} {one other i p q : ℕ} (alike : Alike s one other i p q
 
 -- a name's first byte is in a name
 pub name-begins : {s : List ℕ} {p q : ℕ} → Name s p q → inName (byteAt s p) ≡ true
-name-begins {s} {p} n = or-left (letter (byteAt s p)) (digit (byteAt s p)) (n .begins)
+name-begins {s} {p} n = letter-named (byteAt s p) (n .begins)
 
 -- a walk goes forward
 pub between-forward : {s : List ℕ} {p q : ℕ} {xs : List Spot} → Between s p q xs → p ≤ q

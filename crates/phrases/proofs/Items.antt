@@ -9,7 +9,8 @@ use Rattle.rules.specs.Signs.{byteAt, letter, bracketOpen}
 use Rattle.rules.specs.Names.{Spot, spot, Run, Name}
 use Rattle.rules.specs.Phrases.{Formula, ors, item, list, Stands, name, bracketed}
 use Rattle.rules.specs.Sheets.{columnIn, marksIn}
-use Rattle.rules.proofs.Names.{inside, run-unique}
+use Rattle.rules.proofs.Signs.{inside}
+use Rattle.rules.proofs.Names.{run-unique}
 use Rattle.naming.specs.Words.{Words, columnsFrom}
 use Rattle.phrases.specs.declared.Read.{Read}
 use Rattle.phrases.specs.Readers.{Readable, Marked}

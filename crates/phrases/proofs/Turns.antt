@@ -9,7 +9,7 @@ use lib.Seq.{take-suc-set}
 use Rattle.rules.specs.Signs.{byteAt}
 use Rattle.rules.specs.Phrases.{Formula, Join, ors, ands, signOf, joinOf, list, rest, operand, Stands, first, last, next}
 use Rattle.rules.specs.Sheets.{marksIn}
-use Rattle.rules.proofs.Names.{inside}
+use Rattle.rules.proofs.Signs.{inside}
 use Rattle.rules.proofs.Phrases.{phrase-unique, phrase-moves}
 use Rattle.phrases.specs.declared.Read.{Read}
 use Rattle.phrases.specs.Readers.{marksLong, Readable, Wrote, Marked}

@@ -4,38 +4,20 @@ use mathlib.Core.Logic.{_⊎_, inl, inr, _↔_}
 use mathlib.Core.Bool.{Bool, true, false, cond}
 use mathlib.Core.List.{List}
 use mathlib.Core.Option.{Option, none, some, Option·map, orElse}
-use Prim.Native.Nat.{ℕ, _+_, _<_, _≤_}
+use Prim.Native.Nat.{ℕ, _<_}
 use native.Mathlib.Omega.{arith}
 use borrow.Author.Tests.{eqb-true, eqb-false}
 use lib.Dec.{eqb}
-use lib.ListN.{length}
 use Rattle.rules.specs.Refusals.{tooMany, endNumberOther}
 use Rattle.rules.specs.Texts.{Sheet, OfForm}
-use Rattle.rules.specs.Sheets.{Refusal, refusal, over, namesFault, endFault, sheetFault}
-use Rattle.rules.proofs.TooMany.{IsOver, over-none, over-smallest}
-use Rattle.rules.proofs.NameFaults.{IsFault, column-twice, forbid-unknown, forbid-twice, need-unknown, names-fault-none, names-fault-smallest}
+use Rattle.rules.specs.Sheets.{Refusal, refusal, firstOver, linesIn, namesFault, endFault, sheetFault}
+use Rattle.rules.specs.SheetFaults.{IsFault, column-twice, forbid-unknown, forbid-twice, need-unknown, IsRight, HasFault, too-many, name-wrong, end-wrong}
+use Rattle.rules.proofs.TooMany.{over-none, over-smallest}
+use Rattle.rules.proofs.NameFaults.{names-fault-none, names-fault-smallest}
 
 module _ (sheet : Sheet) where
-  -- the number of forbid and need lines together
-  abbrev pub linesCount : ℕ
-  linesCount = length (sheet .forbids) + length (sheet .needs)
-
-  -- nothing is too many, no name is at fault, and the end line has the number of lines
-  pub record IsRight : Type 0 where
-    pub counts : (p : ℕ) → IsOver sheet p → ⊥
-    pub names : (f : Refusal) → IsFault sheet f → ⊥
-    pub end : sheet .ended .value ≡ linesCount
-
-  -- 3 at the smallest place of something too many; else 4 or 5 at the name at fault with the smallest place; else 6 at the end line's number
-  pub data HasFault : Refusal → Type 0 where
-    too-many : {p : ℕ} → IsOver sheet p → ((q : ℕ) → IsOver sheet q → p ≤ q) → HasFault (refusal tooMany p)
-    name-wrong : {f : Refusal} → ((q : ℕ) → IsOver sheet q → ⊥) → IsFault sheet f
-        → ((g : Refusal) → IsFault sheet g → (f ≡ g) ⊎ (f .place < g .place)) → HasFault f
-    end-wrong : ((q : ℕ) → IsOver sheet q → ⊥) → ((g : Refusal) → IsFault sheet g → ⊥) → (sheet .ended .value ≡ linesCount → ⊥)
-        → HasFault (refusal endNumberOther (sheet .ended .place))
-
   -- there is one fault at most
-  pub fault-unique : {f g : Refusal} → HasFault f → HasFault g → f ≡ g
+  pub fault-unique : {f g : Refusal} → HasFault sheet f → HasFault sheet g → f ≡ g
   fault-unique (too-many {p} a b) (too-many {p = q} c d) = let e : p ≡ q = omega (arith, b q c, d p a) in ap (refusal tooMany) e
   fault-unique (too-many a b) (name-wrong c d e) = absurd (c _ a)
   fault-unique (too-many a b) (end-wrong c d e) = absurd (c _ a)
@@ -51,7 +33,7 @@ module _ (sheet : Sheet) where
   fault-unique (end-wrong a b c) (name-wrong d e h) = absurd (b _ e)
   fault-unique (end-wrong a b c) (end-wrong d e h) = refl
 
-  right-or-fault : {f : Refusal} → IsRight → HasFault f → ⊥
+  right-or-fault : {f : Refusal} → IsRight sheet → HasFault sheet f → ⊥
   right-or-fault r (too-many a b) = r .counts _ a
   right-or-fault r (name-wrong a b c) = r .names _ b
   right-or-fault r (end-wrong a b c) = c (r .end)
@@ -62,22 +44,22 @@ module _ (sheet : Sheet) where
   name-number (forbid-twice before after m q a b) = omega arith
   name-number (need-unknown m i a) = omega arith
 
-  fault-number : {f : Refusal} → HasFault f → (2 < f .number) × (f .number < 7)
+  fault-number : {f : Refusal} → HasFault sheet f → (2 < f .number) × (f .number < 7)
   fault-number (too-many a b) = omega arith
   fault-number (name-wrong a b c) = name-number b
   fault-number (end-wrong a b c) = omega arith
 
   -- what the search finds
   abbrev Found : Option Refusal → Type 0
-  Found none = IsRight
-  Found (some f) = HasFault f
+  Found none = IsRight sheet
+  Found (some f) = HasFault sheet f
 
   module _ {s : List ℕ} (form : OfForm s sheet) where
     found : Found (sheetFault sheet)
     unfolding sheetFault endFault orElse
-    found = go (over sheet) refl (namesFault sheet) refl (eqb (sheet .ended .value) linesCount) refl
+    found = go (firstOver sheet) refl (namesFault sheet) refl (eqb (sheet .ended .value) (linesIn sheet)) refl
       where
-        go : (o : Option ℕ) → over sheet ≡ o → (n : Option Refusal) → namesFault sheet ≡ n → (t : Bool) → eqb (sheet .ended .value) linesCount ≡ t
+        go : (o : Option ℕ) → firstOver sheet ≡ o → (n : Option Refusal) → namesFault sheet ≡ n → (t : Bool) → eqb (sheet .ended .value) (linesIn sheet) ≡ t
             → Found (orElse (Option·map (refusal tooMany) o) (orElse n (cond t none (some (refusal endNumberOther (sheet .ended .place))))))
         go (some p) e n h t k = let r = over-smallest sheet p form e in too-many (r .0) (r .1)
         go none e (some f) h t k = let r = names-fault-smallest sheet f form h in name-wrong (λ q. over-none sheet q e) (r .0) (r .1)
@@ -86,18 +68,18 @@ module _ (sheet : Sheet) where
         go none e none h false k = end-wrong (λ q. over-none sheet q e) (λ f. names-fault-none sheet f h) (eqb-false _ _ k)
 
     -- a text of the form has no fault exactly if its counts, names and end number are right
-    pub right-exactly : (sheetFault sheet ≡ none) ↔ IsRight
+    pub right-exactly : (sheetFault sheet ≡ none) ↔ IsRight sheet
     right-exactly = (λ e. subst Found e found, λ r. go (sheetFault sheet) found r)
       where
-        go : (o : Option Refusal) → Found o → IsRight → o ≡ none
+        go : (o : Option Refusal) → Found o → IsRight sheet → o ≡ none
         go none h r = refl
         go (some f) h r = absurd (right-or-fault r h)
 
     -- a text of the form is refused with this number and place exactly if it has this fault
-    pub fault-exactly : (f : Refusal) → (sheetFault sheet ≡ some f) ↔ HasFault f
+    pub fault-exactly : (f : Refusal) → (sheetFault sheet ≡ some f) ↔ HasFault sheet f
     fault-exactly f = (λ e. subst Found e found, λ r. go (sheetFault sheet) found r)
       where
-        go : (o : Option Refusal) → Found o → HasFault f → o ≡ some f
+        go : (o : Option Refusal) → Found o → HasFault sheet f → o ≡ some f
         go none h r = absurd (right-or-fault h r)
         go (some g) h r = ap (λ (k : Refusal). some k) (fault-unique h r)
 

@@ -31,6 +31,7 @@ pub mod Rebuilding
 pub mod PathSets
 pub mod Paths
 pub mod ListTests
+pub mod Signs
 pub mod Names
 pub mod Phrases
 pub mod Texts

@@ -10,39 +10,23 @@ use Rattle.rules.specs.Refusals.{nameTwice, nameUnknown}
 use Rattle.rules.specs.Names.{Spot, sameName}
 use Rattle.rules.specs.Phrases.{Formula, namesIn}
 use Rattle.rules.specs.Texts.{Line, Sheet, OfForm}
-use Rattle.rules.specs.Sheets.{Refusal, refusal, standsIn, firstFault, columnFault, needFault, forbidFault, linesFault, namesFault}
+use Rattle.rules.specs.Sheets.{Refusal, refusal, standsIn, firstNameFault, columnFault, needFault, forbidFault, linesFault, namesFault}
+use Rattle.rules.specs.SheetFaults.{Among, IsFault, column-twice, forbid-unknown, forbid-twice, need-unknown}
 use Rattle.rules.proofs.Lists.{holds-fails, not-holds, any-one, any-in}
-use Rattle.rules.proofs.Names.{same-equal, equal-same}
 use Rattle.rules.proofs.Searches.{else-none}
 use Rattle.rules.proofs.Smallest.{NoneMissed, Smallest, smallest-none, smallest-some, smallest-else}
 use Rattle.rules.proofs.Places.{nothing, onward, rise-forward, NamesRise, LinesRise, no-lines, next-line, lines-places}
 use Rattle.rules.proofs.Places.{SheetRises, sheet-rises}
 
--- the name stands among these
-abbrev pub Among : List Spot → Spot → Type 0
-Among names x = (c : Spot) × List·Memᴰ c names × (c .name ≡ x .name)
-
--- a name at fault: a column whose name stands among the columns before it, a name of a forbid line that is no column, one that is a column and
--- stands before it in the same line, a name of a need line that is no column
-pub data IsFault (sheet : Sheet) : Refusal → Type 0 where
-  column-twice : (before after : List Spot) {x : Spot} → sheet .columns ≡ before ++ (x ∷ after) → Among before x
-      → IsFault sheet (refusal nameTwice (x .place))
-  forbid-unknown : {l : Line (List Spot)} {x : Spot} → List·Memᴰ l (sheet .forbids) → List·Memᴰ x (l .value) → (Among (sheet .columns) x → ⊥)
-      → IsFault sheet (refusal nameUnknown (x .place))
-  forbid-twice : {l : Line (List Spot)} (before after : List Spot) {x : Spot} → List·Memᴰ l (sheet .forbids) → l .value ≡ before ++ (x ∷ after)
-      → Among (sheet .columns) x → Among before x → IsFault sheet (refusal nameTwice (x .place))
-  need-unknown : {l : Line Formula} {x : Spot} → List·Memᴰ l (sheet .needs) → List·Memᴰ x (namesIn (l .value)) → (Among (sheet .columns) x → ⊥)
-      → IsFault sheet (refusal nameUnknown (x .place))
-
 -- a name of which the test says so stands among these
 pub stands-among : (names : List Spot) (x : Spot) → standsIn names x ≡ true → Among names x
 unfolding standsIn
-stands-among names x e = let t = any-one _ names e in (t .0, t .1, same-equal _ _ (t .2))
+stands-among names x e = let t = any-one _ names e in record { one = t .0; stands = t .1; same = t .2 }
 
 -- of a name that stands among these the test says so
 pub among-stands : (names : List Spot) (x : Spot) → Among names x → standsIn names x ≡ true
 unfolding standsIn
-among-stands names x a = any-in (λ (c : Spot). sameName (c .name) (x .name)) (a .1) (equal-same _ _ (a .2))
+among-stands names x a = any-in (λ (c : Spot). sameName (c .name) (x .name)) (a .stands) (a .same)
 
 -- ---- a search by one test
 
@@ -56,25 +40,25 @@ module _ (fault : List Spot → Spot → Option ℕ) where
   fault-within (onward l r) (now e) = (l, rise-forward _ r)
   fault-within (onward l r) (later i) = let w = fault-within r i in (omega arith, omega arith)
 
-  fault-none : (before names : List Spot) → NoneMissed (FaultIn before names) (firstFault fault before names)
-  unfolding firstFault
+  fault-none : (before names : List Spot) → NoneMissed (FaultIn before names) (firstNameFault fault before names)
+  unfolding firstNameFault
   fault-none before (x ∷ names) e f (now {n} h) =
       absurd (Option·none-ne-some n (sym (map-eq-none-iff _ (fault before x) .0 (else-none _ _ e .0)) ∙ h))
   fault-none before (x ∷ names) e f (later i) = fault-none (before ++ (x ∷ [])) names (else-none _ _ e .1) f i
 
   fault-smallest : {p q : ℕ} (before : List Spot) {names : List Spot} → NamesRise p q names
-      → Smallest (λ f. f .place) (FaultIn before names) (firstFault fault before names)
-  unfolding firstFault orElse
+      → Smallest (λ f. f .place) (FaultIn before names) (firstNameFault fault before names)
+  unfolding firstNameFault orElse
   fault-smallest before (nothing l) = smallest-none _ _
   fault-smallest before (onward {x} {xs = names} l r) = go (fault before x) refl (fault-smallest (before ++ (x ∷ [])) r)
     where
       go : (o : Option ℕ) → fault before x ≡ o
-          → Smallest (λ f. f .place) (FaultIn (before ++ (x ∷ [])) names) (firstFault fault (before ++ (x ∷ [])) names)
+          → Smallest (λ f. f .place) (FaultIn (before ++ (x ∷ [])) names) (firstNameFault fault (before ++ (x ∷ [])) names)
           → Smallest (λ f. f .place) (FaultIn before (x ∷ names))
-          (orElse (Option·map (λ number. refusal number (x .place)) o) (firstFault fault (before ++ (x ∷ [])) names))
+          (orElse (Option·map (λ number. refusal number (x .place)) o) (firstNameFault fault (before ++ (x ∷ [])) names))
       go none e ih = λ f h. (later (ih f h .0), other f h)
         where
-          other : (f : Refusal) → firstFault fault (before ++ (x ∷ [])) names ≡ some f → (g : Refusal) → FaultIn before (x ∷ names) g
+          other : (f : Refusal) → firstNameFault fault (before ++ (x ∷ [])) names ≡ some f → (g : Refusal) → FaultIn before (x ∷ names) g
               → (f ≡ g) ⊎ (f .place < g .place)
           other f h g (now {n} i) = absurd (Option·none-ne-some n (sym e ∙ i))
           other f h g (later i) = ih f h .1 g i

@@ -22,9 +22,9 @@ one-reading (too-long l) (not-of-form m b) = absurd (omega arith)
 one-reading (too-long l) (of-form sheet m g) = absurd (omega arith)
 one-reading (not-of-form l a) (too-long m) = absurd (omega arith)
 one-reading (not-of-form l a) (not-of-form m b) = ap (refused textNotOfForm) (stops-unique a b)
-one-reading (not-of-form l a) (of-form sheet m g) = absurd (a .not (sheet, g))
+one-reading (not-of-form l a) (of-form sheet m g) = absurd (a .otherForm (sheet, g))
 one-reading (of-form sheet l f) (too-long m) = absurd (omega arith)
-one-reading (of-form sheet l f) (not-of-form m b) = absurd (b .not (sheet, f))
+one-reading (of-form sheet l f) (not-of-form m b) = absurd (b .otherForm (sheet, f))
 one-reading (of-form sheet l f) (of-form sheet′ m g) = ap readingOf (sheet-unique f g)
 
 -- ---- which texts have which answer

@@ -1,22 +1,23 @@
 -- The names of a text's columns: they differ, and each is 1 to 12 letters and digits. Assumes nothing.
 use mathlib.Core.Path.{_≡_, refl, sym, ap, _∙_}
-use mathlib.Core.Bool.{Bool, true, false, cond, _&&_, true≢false, false≢true}
+use mathlib.Core.Bool.{Bool, true, false, cond, _&&_, false≢true}
 use mathlib.Core.List.{List, [], _∷_, map}
 use mathlib.Core.Option.{none, some, Option·none-ne-some}
 use Prim.Native.Nat.{ℕ, zero, suc, _+_, _-_, _<_}
-use native.Mathlib.Decide.{decLt}
 use native.Mathlib.Omega.{arith}
 use lib.Dec.{ltb, leb}
-use lib.ListN.{length, getD, take, drop, length-drop, List·getD-eq-default}
+use lib.ListN.{length, getD, take, drop, length-drop}
 use lib.Seq.{getD-take, getD-drop, length-take-le}
 use borrow.Author.Tests.{lt-ltb, le-leb}
 use Rattle.rules.specs.Lists.{every}
-use Rattle.rules.specs.Signs.{byteAt, piece, letter, digit, inName}
+use Rattle.rules.specs.Signs.{piece, inName}
 use Rattle.rules.specs.Names.{Spot, Name, Names, last-name, more-names, sameName, mostNameBytes}
 use Rattle.rules.specs.Texts.{Sheet, OfForm}
 use Rattle.rules.specs.Refusals.{nameTwice}
 use Rattle.rules.specs.Sheets.{standsIn, columnFault, sheetFault, namesOf}
-use Rattle.rules.proofs.Lists.{and-both, or-left, holds-fails, not-any-in, getD-in}
+use Rattle.rules.proofs.Lists.{and-both, not-any-in, getD-in}
+use Rattle.rules.proofs.Signs.{named-inside}
+use Rattle.rules.proofs.Names.{name-some}
 use Rattle.rules.proofs.ListTests.{every-weaker, every-places}
 use Rattle.rules.proofs.Sheets.{nowhere, faultless, no-fault}
 
@@ -56,36 +57,16 @@ names-differ sheet e i j l h =
 
 -- ---- the bytes of names
 
--- only a byte of the text is a letter or a digit
-in-text : (s : List ℕ) (i : ℕ) → inName (byteAt s i) ≡ true → i < length s
-in-text s i e = go (decLt i (length s))
-  where
-    go : Dec (i < length s) → i < length s
-    go (yes l) = l
-    go (no n) = absurd (true≢false (sym e ∙ ap inName (List·getD-eq-default s 0 {n = i} (omega arith))))
-
-name-forward : (s : List ℕ) (p q : ℕ) → Name s p q → p < q
-name-forward s p q n = go (decLt p q)
-  where
-    begun : inName (byteAt s p) ≡ true
-    begun = or-left (letter (byteAt s p)) (digit (byteAt s p)) (n .begins)
-
-    go : Dec (p < q) → p < q
-    go (yes l) = l
-    go (no m) =
-        let same : q ≡ p = omega (arith, n .run .forward) in
-        holds-fails (inName (byteAt s p)) begun (ap (λ (i : ℕ). inName (byteAt s i)) (sym same) ∙ n .run .ends)
-
 name-length : (s : List ℕ) (p q : ℕ) → Name s p q → length (piece s p q) ≡ q - p
 name-length s p q n =
-    let l = name-forward s p q n in
-    let last = in-text s (q - 1) (n .run .goesOn (q - 1) (omega arith) (omega arith)) in
+    let l = name-some n in
+    let last = named-inside s (q - 1) (n .run .goesOn (q - 1) (omega arith) (omega arith)) in
     length-take-le (q - p) (drop p s) (omega (arith, length-drop p s))
 
 name-long : (s : List ℕ) (p q : ℕ) → Name s p q → (ltb 0 (length (piece s p q)) && leb (length (piece s p q)) mostNameBytes) ≡ true
 name-long s p q n =
     rw (name-length s p q n)
-    (and-both _ _ (lt-ltb 0 (q - p) (omega (arith, name-forward s p q n))) (le-leb (q - p) mostNameBytes (omega (arith, n .short))))
+    (and-both _ _ (lt-ltb 0 (q - p) (omega (arith, name-some n))) (le-leb (q - p) mostNameBytes (omega (arith, n .short))))
 
 name-bytes : (s : List ℕ) (p q : ℕ) → Name s p q → every inName (piece s p q) ≡ true
 name-bytes s p q n = every-places inName (piece s p q) 0 byte

@@ -17,7 +17,7 @@ use Rattle.rules.specs.Names.{Spot, Names, last-name, more-names, sameNa
 use Rattle.rules.specs.Phrases.{Formula, namesIn}
 use Rattle.rules.specs.Texts.{Line, Lines, no-line, one-line, Sheet, OfForm}
 use Rattle.rules.specs.Refusals.{nameUnknown}
-use Rattle.rules.specs.Sheets.{nameAfter, lineAfter, needsOver, over, columnOf, standsIn, firstFault}
+use Rattle.rules.specs.Sheets.{nameAfter, lineAfter, needsOver, firstOver, columnOf, standsIn, firstNameFault}
 use Rattle.rules.specs.Sheets.{columnFault, needFault, forbidFault, linesFault, namesFault, endFault, sheetFault}
 use Rattle.rules.specs.Sheets.{columnIn, setWith, needIn, marksIn, numbersOf}
 use Rattle.rules.proofs.Lists.{and-parts, and-both, or-none}
@@ -39,14 +39,14 @@ pub record Faultless (sheet : Sheet) : Type 0 where
   pub fewColumns : nameAfter mostColumns (sheet .columns) ≡ none
   pub fewForbids : lineAfter mostForbidden (sheet .forbids) ≡ none
   pub fewNeeds : needsOver mostNeeds (sheet .needs) ≡ none
-  pub columns : firstFault columnFault [] (sheet .columns) ≡ none
+  pub columns : firstNameFault columnFault [] (sheet .columns) ≡ none
   pub forbids : linesFault (forbidFault (sheet .columns)) (map (λ l. l .value) (sheet .forbids)) ≡ none
   pub needs : linesFault (needFault (sheet .columns)) (map (λ l. namesIn (l .value)) (sheet .needs)) ≡ none
   pub ended : endFault sheet ≡ none
 
 -- a sheet without a fault breaks no clause
 pub faultless : (sheet : Sheet) → sheetFault sheet ≡ none → Faultless sheet
-unfolding sheetFault over namesFault
+unfolding sheetFault firstOver namesFault
 faultless sheet e =
     let a = else-none _ _ e in
     let b = else-none _ _ (map-eq-none-iff _ _ .0 (a .0)) in
@@ -108,9 +108,9 @@ counts s sheet form e =
 -- ---- names
 
 -- where there is no fault, each name is tested against all names before it
-pub no-fault : (fault : List Spot → Spot → Option ℕ) (before names : List Spot) → firstFault fault before names ≡ none
+pub no-fault : (fault : List Spot → Spot → Option ℕ) (before names : List Spot) → firstNameFault fault before names ≡ none
     → (j : ℕ) (d : Spot) → j < length names → fault (before ++ take j names) (getD names j d) ≡ none
-unfolding firstFault
+unfolding firstNameFault
 no-fault fault before [] e j d h = absurd (omega arith)
 no-fault fault before (x ∷ names) e zero d h = rw (append-nil before) (map-eq-none-iff _ _ .0 (else-none _ _ e .0))
 no-fault fault before (x ∷ names) e (suc j) d h =
@@ -121,7 +121,7 @@ module _
     (fault : List Spot → Spot → Option ℕ)
     (p : Spot → Bool)
     (right : (before : List Spot) (x : Spot) → fault before x ≡ none → p x ≡ true) where
-  names-right : (names : List Spot) → firstFault fault [] names ≡ none → every p names ≡ true
+  names-right : (names : List Spot) → firstNameFault fault [] names ≡ none → every p names ≡ true
   names-right names e = every-places p names nowhere (λ i h. right (take i names) (getD names i nowhere) (no-fault fault [] names e i nowhere h))
 
   lines-right : {A : Type 0} (names : A → List Spot) (lines : List A) → linesFault fault (map names lines) ≡ none

@@ -12,20 +12,12 @@ use Rattle.rules.specs.Numbers.{mostForbidden, mostNeeds, mostColumnMark
 use Rattle.rules.specs.Names.{Spot}
 use Rattle.rules.specs.Phrases.{Formula, namesIn}
 use Rattle.rules.specs.Texts.{Line, Sheet, OfForm}
-use Rattle.rules.specs.Sheets.{nameAfter, lineAfter, needsOver, over}
+use Rattle.rules.specs.Sheets.{nameAfter, lineAfter, needsOver, firstOver}
+use Rattle.rules.specs.SheetFaults.{IsOver, column-over, forbid-over, need-over, name-over}
 use Rattle.rules.proofs.Searches.{else-none}
 use Rattle.rules.proofs.Smallest.{NoneMissed, Smallest, smallest-none, smallest-some, smallest-else}
 use Rattle.rules.proofs.Places.{Rise, nothing, onward, rise-forward, rise-within, rise-drop, LinesRise, no-lines, next-line}
 use Rattle.rules.proofs.Places.{lines-places, lines-names, SheetRises, sheet-rises}
-
--- the place of something that is too many: a 17th or later column, a 33rd or later forbid line, a 9th or later need line, a 33rd or later name
--- in a need line
-pub data IsOver (sheet : Sheet) : ℕ → Type 0 where
-  column-over : {x : Spot} → List·Memᴰ x (drop mostColumns (sheet .columns)) → IsOver sheet (x .place)
-  forbid-over : {l : Line (List Spot)} → List·Memᴰ l (drop mostForbidden (sheet .forbids)) → IsOver sheet (l .place)
-  need-over : {l : Line Formula} → List·Memᴰ l (drop mostNeeds (sheet .needs)) → IsOver sheet (l .place)
-  name-over : {l : Line Formula} {x : Spot} → List·Memᴰ l (sheet .needs) → List·Memᴰ x (drop mostColumnMarks (namesIn (l .value)))
-      → IsOver sheet (x .place)
 
 module _ {A : Type 0} (place : A → ℕ) where
   -- the place of one of these
@@ -136,8 +128,8 @@ over-is sheet n (need-over m) = inr (inr (line-over m))
 over-is sheet n (name-over m i) = inr (inr (in-line m i))
 
 -- where nothing is found to be too many nothing is
-pub over-none : (sheet : Sheet) (q : ℕ) → over sheet ≡ none → IsOver sheet q → ⊥
-unfolding over nameAfter lineAfter
+pub over-none : (sheet : Sheet) (q : ℕ) → firstOver sheet ≡ none → IsOver sheet q → ⊥
+unfolding firstOver nameAfter lineAfter
 over-none sheet q e h = go (over-is sheet q h)
   where
     go : LateColumn sheet q ⊎ (LateForbid sheet q ⊎ LateNeed sheet q) → ⊥
@@ -146,8 +138,8 @@ over-none sheet q e h = go (over-is sheet q h)
     go (inr (inr i)) = needs-none _ _ (else-none _ _ (else-none _ _ e .1) .1) q i
 
 -- in a text of the form the place found is that of something too many, and the smallest such place
-pub over-smallest : {s : List ℕ} (sheet : Sheet) (p : ℕ) → OfForm s sheet → over sheet ≡ some p → IsOver sheet p × ((q : ℕ) → IsOver sheet q → p ≤ q)
-unfolding over nameAfter lineAfter
+pub over-smallest : {s : List ℕ} (sheet : Sheet) (p : ℕ) → OfForm s sheet → firstOver sheet ≡ some p → IsOver sheet p × ((q : ℕ) → IsOver sheet q → p ≤ q)
+unfolding firstOver nameAfter lineAfter
 over-smallest sheet p form e = let t = found p e in (t .0, λ q h. least q (t .1 q h))
   where
     rises : SheetRises sheet
@@ -176,7 +168,7 @@ over-smallest sheet p form e = let t = found p e in (t .0, λ q h. least q (t .1
         let w = need-within (rises .needsRise) j in
         omega arith
 
-    found : Smallest (λ (n : ℕ). n) (IsOver sheet) (over sheet)
+    found : Smallest (λ (n : ℕ). n) (IsOver sheet) (firstOver sheet)
     found =
         smallest-else _ (LateColumn sheet) (λ (n : ℕ). LateForbid sheet n ⊎ LateNeed sheet n) (IsOver sheet) _ _ (first-place-smallest _ columns)
         (first-place-none _ _)

@@ -16,6 +16,7 @@ pub mod Names
 pub mod Phrases
 pub mod Texts
 pub mod Sheets
+pub mod SheetFaults
 pub mod Readings
 pub mod Drawings
 pub mod Plannings

@@ -21,7 +21,7 @@ pub data Reading : Type 0 where
 unfoldable pub readingOf : Sheet → Reading
 readingOf sheet = Option·elim (sheetFault sheet) (taken (numbersOf sheet) (namesOf sheet)) (λ f. refused (f .number) (f .place))
 
--- of any text. No text reads in two ways, and each in one
+-- of any text. That no text reads in two ways is a law, that each reads in one is the reader's promise
 pub data Reads (s : List ℕ) : Reading → Type 0 where
   too-long : mostBytes < length s → Reads s (refused textTooLong mostBytes)
   not-of-form : {p : ℕ} → length s ≤ mostBytes → StopsAt s p → Reads s (refused textNotOfForm p)

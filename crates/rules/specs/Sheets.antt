@@ -1,5 +1,5 @@
 -- What a text of the form comes to: refusal 3, then 4 or 5, then 6, or the numbers of a job and the names of its columns. Wherever 01 asks for the
--- smallest place it is found by going through the text from its beginning.
+-- smallest place it is found by going through the text from its beginning; SheetFaults.antt has the sentences that this renders.
 use mathlib.Core.Bool.{Bool, cond}
 use mathlib.Core.List.{List, [], _∷_, _++_, map}
 use mathlib.Core.Option.{Option, none, some, Option·map, Option·getD, orElse}
@@ -40,8 +40,8 @@ needsOver k [] = none
 needsOver zero (l ∷ lines) = some (l .place)
 needsOver (suc k) (l ∷ lines) = orElse (nameAfter mostColumnMarks (namesIn (l .value))) (needsOver k lines)
 
-unfoldable pub over : Sheet → Option ℕ
-over sheet =
+unfoldable pub firstOver : Sheet → Option ℕ
+firstOver sheet =
     orElse (nameAfter mostColumns (sheet .columns)) (orElse (lineAfter mostForbidden (sheet .forbids)) (needsOver mostNeeds (sheet .needs)))
 
 -- ---- 4: "a name twice in columns=, or a known name twice in one forbid"; 5: "a name in forbid or need that isn't a column"
@@ -55,10 +55,10 @@ unfoldable pub standsIn : List Spot → Spot → Bool
 standsIn names x = anyOf (λ c. sameName (c .name) (x .name)) names
 
 -- the first name at fault, by a test that also sees the names before it
-unfoldable pub firstFault : (List Spot → Spot → Option ℕ) → List Spot → List Spot → Option Refusal
-firstFault fault before [] = none
-firstFault fault before (x ∷ names) =
-    orElse (Option·map (λ number. refusal number (x .place)) (fault before x)) (firstFault fault (before ++ (x ∷ [])) names)
+unfoldable pub firstNameFault : (List Spot → Spot → Option ℕ) → List Spot → List Spot → Option Refusal
+firstNameFault fault before [] = none
+firstNameFault fault before (x ∷ names) =
+    orElse (Option·map (λ number. refusal number (x .place)) (fault before x)) (firstNameFault fault (before ++ (x ∷ [])) names)
 
 unfoldable pub columnFault : List Spot → Spot → Option ℕ
 columnFault before x = cond (standsIn before x) (some nameTwice) none
@@ -72,23 +72,26 @@ forbidFault columns before x = orElse (needFault columns before x) (columnFault 
 -- the first fault in lines of names
 unfoldable pub linesFault : (List Spot → Spot → Option ℕ) → List (List Spot) → Option Refusal
 linesFault fault [] = none
-linesFault fault (names ∷ lines) = orElse (firstFault fault [] names) (linesFault fault lines)
+linesFault fault (names ∷ lines) = orElse (firstNameFault fault [] names) (linesFault fault lines)
 
 unfoldable pub namesFault : Sheet → Option Refusal
 namesFault sheet =
-    orElse (firstFault columnFault [] (sheet .columns))
+    orElse (firstNameFault columnFault [] (sheet .columns))
     (orElse (linesFault (forbidFault (sheet .columns)) (map (λ l. l .value) (sheet .forbids)))
     (linesFault (needFault (sheet .columns)) (map (λ l. namesIn (l .value)) (sheet .needs))))
 
 -- ---- 6: "end= has another number"; "the number of forbid and need lines together"
 
+abbrev pub linesIn : Sheet → ℕ
+linesIn sheet = length (sheet .forbids) + length (sheet .needs)
+
 unfoldable pub endFault : Sheet → Option Refusal
 endFault sheet =
-    cond (eqb (sheet .ended .value) (length (sheet .forbids) + length (sheet .needs))) none (some (refusal endNumberOther (sheet .ended .place)))
+    cond (eqb (sheet .ended .value) (linesIn sheet)) none (some (refusal endNumberOther (sheet .ended .place)))
 
 -- "Order for text: 1, 2, 3, then 4 or 5 whichever has the smaller place, then 6."
 unfoldable pub sheetFault : Sheet → Option Refusal
-sheetFault sheet = orElse (Option·map (refusal tooMany) (over sheet)) (orElse (namesFault sheet) (endFault sheet))
+sheetFault sheet = orElse (Option·map (refusal tooMany) (firstOver sheet)) (orElse (namesFault sheet) (endFault sheet))
 
 -- ---- the job
 

@@ -68,4 +68,4 @@ pub record StopsAt (s : List ℕ) (p : ℕ) : Type 0 where
   pub within : p ≤ length s
   pub before : (i : ℕ) → i ≤ p → CanGoOn (take i s)
   pub after : p < length s → CanGoOn (take (suc p) s) → ⊥
-  pub not : HasForm s → ⊥
+  pub otherForm : HasForm s → ⊥

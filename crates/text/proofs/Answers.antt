@@ -7,12 +7,12 @@ use Prim.Native.Nat.{ℕ, _≤_, _<_}
 use native.Mathlib.Omega.{arith}
 use lib.ListN.{length, take}
 use Rattle.rules.specs.Numbers.{Numbers, unfit}
-use Rattle.rules.specs.Signs.{byteAt, Says, endKey, says-byte}
 use Rattle.rules.specs.Names.{Spot}
 use Rattle.rules.specs.Phrases.{Formula}
 use Rattle.rules.specs.Texts.{Line, Sheet, OfForm, StopsAt}
 use Rattle.rules.specs.Sheets.{refusal, sheetFault, marksOf, numbersOf, namesOf}
 use Rattle.rules.specs.Readings.{mostBytes, refused, readingOf, too-long, not-of-form, of-form}
+use Rattle.rules.proofs.Signs.{says-first}
 use Rattle.rules.proofs.MarkedNeeds.{length-lines}
 use Rattle.rules.proofs.Sheets.{counts, sheet-fit}
 use Rattle.rules.proofs.Readings.{reading-taken, reading-refused}
@@ -36,9 +36,6 @@ loaded-job : (q : Numbers) → unfit q ≡ false → loaded q .job ≡ jobWith q
 unfolding loaded
 loaded-job q e = rw e
 
-end-begins : {s : List ℕ} {p : ℕ} → Says s p endKey → byteAt s p ≡ 101
-end-begins (says-byte e more) = e
-
 module _ {s : List ℕ} {sheet : Sheet} (form : OfForm s sheet) (right : sheetFault sheet ≡ none) where
   words : Words s columnsFrom (form .columnsTo) (sheet .columns)
   words = laid form .columns
@@ -48,7 +45,7 @@ module _ {s : List ℕ} {sheet : Sheet} (form : OfForm s sheet) (right : sheetFa
 
   -- no need line stands where the end line begins
   need-lines : NeedLines s (form .needsFrom) (form .endFrom) (sheet .needs)
-  need-lines = record { stand = form .needs; over = λ e. omega (arith, end-begins (form .endSaid), e) }
+  need-lines = record { stand = form .needs; over = λ e. omega (arith, says-first (form .endSaid) .0, e) }
 
   room : length (marksOf [] (sheet .needs)) ≤ 512
   room =

@@ -12,7 +12,7 @@ use Rattle.rules.specs.Names.{Spot}
 use Rattle.rules.specs.Phrases.{Formula, ors, list, mostBrackets, Stands}
 use Rattle.rules.specs.Texts.{Line, line, Lines, no-line, one-line}
 use Rattle.rules.specs.Sheets.{marksIn, marksOf}
-use Rattle.rules.proofs.Names.{inside}
+use Rattle.rules.proofs.Signs.{inside}
 use Rattle.rules.proofs.Phrases.{phrase-unique, phrase-moves}
 use Rattle.rules.proofs.Texts.{lines-unique}
 use Rattle.naming.specs.Words.{Words, columnsFrom}

@@ -13,7 +13,8 @@ use Rattle.rules.specs.Names.{Run}
 use Rattle.rules.proofs.Lists.{holds-fails}
 use Rattle.rules.proofs.Written.{written-last}
 use Rattle.rules.proofs.Names.{run-unique}
-use Rattle.naming.proofs.Walks.{from-more, name-inside}
+use Rattle.rules.proofs.Signs.{named-inside}
+use Rattle.naming.proofs.Walks.{from-more}
 
 -- a piece with the byte behind it
 piece-more : (s : List ℕ) (p i : ℕ) → p + i < length s → piece s p (p + (i + 1)) ≡ piece s p (p + i) ++ (byteAt s (p + i) ∷ [])
@@ -62,7 +63,7 @@ module _ (s : List ℕ) (at from : ℕ) (old : List ℕ) where
     -- one byte more
     pub put-more : i < 12 → from + 12 ≤ length old → inName (byteAt s (at + i)) ≡ true → Put s at from old (i + 1) (set new (from + i) (byteAt s (at + i)))
     put-more h room e =
-        let within : at + i < length s = name-inside s (at + i) e in
+        let within : at + i < length s = named-inside s (at + i) e in
         let start : length (take from old) ≡ from = length-take-le from old (omega arith) in
         let long : length (piece s at (at + i)) ≡ i = length-piece s at i (put .inside) in
         let free : length (piece s at (at + i)) < length (drop from old) = omega (arith, long, length-drop from old) in

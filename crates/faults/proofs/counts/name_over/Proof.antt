@@ -7,7 +7,8 @@ use lib.ListN.{length}
 use Rattle.rules.specs.Names.{Spot, spot}
 use Rattle.rules.specs.Sheets.{nameAfter}
 use Rattle.naming.specs.Words.{Words}
-use Rattle.naming.proofs.Walks.{told, name-inside, run-some}
+use Rattle.rules.proofs.Signs.{named-inside}
+use Rattle.naming.proofs.Walks.{told, run-some}
 use Rattle.faults.proofs.Left.{NamesLeft, names-start, name-here, name-next, name-last}
 use Rattle.faults.proofs.Counted.{too-many, not-many, no-name-after, name-after, name-counted}
 use borrow.Author.Needs.{needs}
@@ -60,7 +61,7 @@ loop-less c =
     let t = c .before .before .before in
     let s = t .before .before .before .before .before .before in
     let here = told (t .before .before .byte .ensures) (t .before .in-name .ensures) (t .if1 .taken) in
-    let inside = name-inside (s .args .text .now) (t .before .before .before .loop .place) here in
+    let inside = named-inside (s .args .text .now) (t .before .before .before .loop .place) here in
     omega (arith, run-some (c .before .name-end .ensures) here, c .next-name2 .ensures .forward)
 
 loop-again : tie.Need-loop-again Inv-loop μ-loop

@@ -6,7 +6,8 @@ use native.Mathlib.Omega.{arith}
 use lib.ListN.{length}
 use Rattle.rules.specs.Names.{Spot, spot}
 use Rattle.naming.specs.Words.{Words, columnsFrom}
-use Rattle.naming.proofs.Walks.{told, name-inside, run-some}
+use Rattle.rules.proofs.Signs.{named-inside}
+use Rattle.naming.proofs.Walks.{told, run-some}
 use Rattle.faults.specs.Kinds.{faultBy}
 use Rattle.faults.proofs.Left.{NamesLeft, names-start, name-here, name-next, name-last, skips-nothing, name-between}
 use Rattle.faults.proofs.Tested.{RightBefore, all-right, first-faulty, first-right}
@@ -63,7 +64,7 @@ loop-less c =
     let t = c .before .before .before .before in
     let s = t .before .before .before .before .before .before in
     let here = told (t .before .before .byte .ensures) (t .before .in-name .ensures) (t .if1 .taken) in
-    let inside = name-inside (s .args .text .now) (t .before .before .before .loop .place) here in
+    let inside = named-inside (s .args .text .now) (t .before .before .before .loop .place) here in
     omega (arith, run-some (c .before .name-end .ensures) here, c .next-name2 .ensures .forward)
 
 loop-again : tie.Need-loop-again Inv-loop μ-loop

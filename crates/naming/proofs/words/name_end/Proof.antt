@@ -5,7 +5,8 @@ use Prim.Native.Nat.{ℕ, _-_, _<_, _≤_}
 use native.Mathlib.Omega.{arith}
 use lib.ListN.{length}
 use Rattle.rules.specs.Signs.{byteAt, inName}
-use Rattle.naming.proofs.Walks.{told, name-inside, from-more}
+use Rattle.rules.proofs.Signs.{named-inside}
+use Rattle.naming.proofs.Walks.{told, from-more}
 use borrow.Author.Needs.{needs}
 use Rattle.naming.proofs.words.name_end.Statement.{statement}
 use Rattle.naming.proofs.words.name_end.Tie as tie
@@ -29,7 +30,7 @@ here : (c : More) → inName (byteAt (c .before .before .before .before .before 
 here c = told (c .before .before .byte .ensures) (c .before .in-name .ensures) (c .if1 .taken)
 
 inside : (c : More) → c .before .before .before .loop .end < length (c .before .before .before .before .before .args .text .now)
-inside c = name-inside (c .before .before .before .before .before .args .text .now) (c .before .before .before .loop .end) (here c)
+inside c = named-inside (c .before .before .before .before .before .args .text .now) (c .before .before .before .loop .end) (here c)
 
 loop-holds : tie.Need-loop-holds Inv-loop μ-loop
 loop-holds c = (search needs, λ i l h. absurd (omega arith))

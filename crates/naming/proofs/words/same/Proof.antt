@@ -8,7 +8,8 @@ use lib.ListN.{length}
 use borrow.Author.Needs.{needs}
 use Rattle.rules.specs.Signs.{byteAt, inName}
 use Rattle.rules.specs.Names.{Run}
-use Rattle.naming.proofs.Walks.{told, name-inside, Alike, alike-none, alike-more, alike-other, alike-end}
+use Rattle.rules.proofs.Signs.{named-inside}
+use Rattle.naming.proofs.Walks.{told, Alike, alike-none, alike-more, alike-other, alike-end}
 use Rattle.naming.proofs.words.same.Statement.{statement}
 use Rattle.naming.proofs.words.same.Tie as tie
 use Rattle.naming.proofs.words.same.Reads as reads
@@ -38,7 +39,7 @@ abbrev otherAt : Tested → ℕ
 otherAt c = c .before .before .before .before .args .other + c .before .before .loop .i
 
 inside : (c : Tested) → c .in-name .result ≡ true → oneAt c < length (text c)
-inside c e = name-inside (text c) (oneAt c) (told (c .before .byte .ensures) (c .in-name .ensures) e)
+inside c e = named-inside (text c) (oneAt c) (told (c .before .byte .ensures) (c .in-name .ensures) e)
 
 -- where both bytes are known
 abbrev Both : Type 0
@@ -90,7 +91,7 @@ loop-again c =
     let l = t .before .before .loop in
     let same = sym (b .before .byte2 .ensures) ∙ c .if2 .left ∙ b .byte3 .ensures in
     let h = inside t (b .before .before .if1 .taken) in
-    let k = name-inside (text t) (otherAt t) (ap inName (sym same) ∙ here b) in
+    let k = named-inside (text t) (otherAt t) (ap inName (sym same) ∙ here b) in
     (omega arith, omega arith, λ p q u v. alike-more (l .inv .2 p q u v) (here b) same)
 
 add-byte-4 : tie.Need-add-byte-4 Inv-loop μ-loop

@@ -8,7 +8,8 @@ use Rattle.rules.specs.Sets.{union}
 use Rattle.rules.specs.Names.{Spot}
 use Rattle.rules.proofs.SetBits.{bit-fits}
 use Rattle.naming.specs.Words.{Words, columnsFrom}
-use Rattle.naming.proofs.Walks.{told, name-inside, run-some}
+use Rattle.rules.proofs.Signs.{named-inside}
+use Rattle.naming.proofs.Walks.{told, run-some}
 use Rattle.text.proofs.Gathering.{Gathered, gathered-none, gathered-more, gathered-end}
 use borrow.Author.Needs.{needs}
 use Rattle.text.proofs.sets.set_of.Statement.{statement}
@@ -53,7 +54,7 @@ loop-less : tie.Need-loop-less Inv-loop μ-loop
 loop-less c =
     let l = c .before .before .before .before .before .before .before .loop in
     let here = told (c .before .before .before .before .before .before .byte .ensures) (c .before .before .before .before .before .in-name .ensures) (c .before .before .before .before .if1 .taken) in
-    let inside = name-inside (c .before .before .before .before .before .before .before .before .before .before .args .text .now) (l .place) here in
+    let inside = named-inside (c .before .before .before .before .before .before .before .before .before .before .args .text .now) (l .place) here in
     omega (arith, inside, run-some (c .before .name-end .ensures) here, c .next-name2 .ensures .forward)
 
 loop-again : tie.Need-loop-again Inv-loop μ-loop

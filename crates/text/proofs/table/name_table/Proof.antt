@@ -7,7 +7,8 @@ use lib.ListN.{length}
 use borrow.Author.Tests.{not-true, not-false}
 use Rattle.rules.specs.Names.{Spot}
 use Rattle.naming.specs.Words.{Words, columnsFrom}
-use Rattle.naming.proofs.Walks.{told, name-inside}
+use Rattle.rules.proofs.Signs.{named-inside}
+use Rattle.naming.proofs.Walks.{told}
 use Rattle.text.proofs.Tabling.{Filled, filled-none, filled-more, filled-end, filled-full}
 use borrow.Author.Needs.{needs}
 use Rattle.text.proofs.table.name_table.Statement.{statement}
@@ -49,7 +50,7 @@ put-name-requires c κs =
     let l = c .before .before .before .before .before .loop in
     let b = c .before .before .before in
     let here = told (b .byte .ensures) (c .before .before .in-name .ensures) (not-false _ (c .before .if1 .left)) in
-    (omega (arith, l .inv .1, c .before .before .before .before .loop-test .taken), omega (arith, name-inside (c .before .before .before .before .before .before .before .before .args .text .now) (l .place) here))
+    (omega (arith, l .inv .1, c .before .before .before .before .loop-test .taken), omega (arith, named-inside (c .before .before .before .before .before .before .before .before .args .text .now) (l .place) here))
 
 add-columns : tie.Need-add-columns Inv-loop μ-loop
 add-columns c = search needs
