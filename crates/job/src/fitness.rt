@@ -14,7 +14,7 @@ ghost use Rattle.rules.specs.Numbers.{setUnfit, markUnfit, needUnfit};
 ghost use Rattle.job.specs.Findings.{placeOf, countOf, needCount};
 
 // "Column marks in a need 1 to 32."
-const MOST_COLUMN_MARKS: usize = 32;
+pub const MOST_COLUMN_MARKS: usize = 32;
 
 // Where the first is that was looked for.
 pub enum Found {

@@ -15,9 +15,9 @@ ghost use Rattle.rules.specs.Marks.{rows as rowsIn};
 ghost use Rattle.job.specs.Records.{noJob, jobWith, loaded};
 
 // "Forbidden sets 0 to 32." Eight needs of 63 marks and an end mark each are 512.
-const MOST_FORBIDDEN: usize = 32;
+pub const MOST_FORBIDDEN: usize = 32;
 
-const MOST_MARKS: usize = 512;
+pub const MOST_MARKS: usize = 512;
 
 // The numbers of a fit job. Places without a number are 0.
 pub struct Job {
@@ -57,21 +57,26 @@ pub fn load(columns: usize, forbidden: &[u16], marks: &[u16]) -> Loaded
     fit(n, forbidden, count, marks)
 }
 
+// A job with no columns, sets or marks.
+pub fn no_job() -> Job
+    ensures { λ r. ⌜ r ≡ noJob ⌝ }
+{
+    Job {
+        columns: 0,
+        sets: 0,
+        forbidden: [0u16; MOST_FORBIDDEN],
+        needs: 0,
+        marked: 0,
+        marks: [0u16; MOST_MARKS],
+    }
+}
+
 // What unfit numbers give.
-pub fn unfit() -> Loaded
+fn unfit() -> Loaded
     ensures { λ r. ⌜ (r .fit ≡ false) × (r .job ≡ noJob) ⌝ }
 {
-    Loaded {
-        fit: false,
-        job: Job {
-            columns: 0,
-            sets: 0,
-            forbidden: [0u16; MOST_FORBIDDEN],
-            needs: 0,
-            marked: 0,
-            marks: [0u16; MOST_MARKS],
-        },
-    }
+    let job = no_job();
+    Loaded { fit: false, job }
 }
 
 // What fit numbers give.

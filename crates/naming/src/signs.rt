@@ -1,6 +1,6 @@
 // The bytes of a job text.
 ghost use mathlib.Core.Path.{_≡_};
-ghost use Rattle.rules.specs.Signs.{byteAt, inName};
+ghost use Rattle.rules.specs.Signs.{byteAt, letter as letterByte, digit as digitByte, inName};
 ghost use Rattle.naming.specs.Words.{isSign};
 
 pub const LINE_END: u8 = b'\n';
@@ -12,11 +12,23 @@ pub fn byte(text: &[u8], at: usize) -> u8
     if at < text.len() { text[at] } else { 0 }
 }
 
+pub fn letter(sign: u8) -> bool
+    ensures { λ r. ⌜ r ≡ letterByte sign ⌝ }
+{
+    b'a' <= sign && sign <= b'z'
+}
+
+pub fn digit(sign: u8) -> bool
+    ensures { λ r. ⌜ r ≡ digitByte sign ⌝ }
+{
+    b'0' <= sign && sign <= b'9'
+}
+
 // Whether a byte can stand in a name.
 pub fn in_name(sign: u8) -> bool
     ensures { λ r. ⌜ r ≡ inName sign ⌝ }
 {
-    (b'a' <= sign && sign <= b'z') || (b'0' <= sign && sign <= b'9')
+    letter(sign) || digit(sign)
 }
 
 // Whether a byte stands between the names of a line.

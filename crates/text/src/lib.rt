@@ -7,6 +7,7 @@ use form::Formed;
 use form::form;
 use job::Job;
 use job::load;
+use job::no_job;
 use table::NAMES;
 
 mod table; // table.rt: the names of the columns
@@ -40,8 +41,7 @@ pub struct JobRead {
 fn refused(refusal: u16, place: usize) -> JobRead
     ensures { λ r. ⌜ r ≡ readOf (refusedWith refusal place) ⌝ }
 {
-    let unfit = job::unfit();
-    let job = unfit.job;
+    let job = no_job();
     JobRead {
         refusal,
         place,

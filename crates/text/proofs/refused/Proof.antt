@@ -5,12 +5,12 @@ use borrow.Author.Needs.{needs}
 use Rattle.text.proofs.refused.Statement.{statement}
 use Rattle.text.proofs.refused.Tie as tie
 
-unfit-requires : tie.Need-unfit-requires
-unfit-requires c κs = search needs
+no-job-requires : tie.Need-no-job-requires
+no-job-requires c κs = search needs
 
 returns : tie.Need-returns
 unfolding nameTable nameRows written
-returns c = rw (c .before .unfit .ensures .1)
+returns c = rw (c .no-job .ensures)
 
 pub refused-spec : {M : Type 1} → statement M
-refused-spec = tie.close (tie.spec unfit-requires returns)
+refused-spec = tie.close (tie.spec no-job-requires returns)
