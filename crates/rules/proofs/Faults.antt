@@ -44,7 +44,8 @@ module _ (sheet : Sheet) where
   name-number (forbid-twice before after m q a b) = omega arith
   name-number (need-unknown m i a) = omega arith
 
-  fault-number : {f : Refusal} → HasFault sheet f → (2 < f .number) × (f .number < 7)
+  -- such a fault has one of the numbers 3 to 6
+  pub fault-number : {f : Refusal} → HasFault sheet f → (2 < f .number) × (f .number < 7)
   fault-number (too-many a b) = omega arith
   fault-number (name-wrong a b c) = name-number b
   fault-number (end-wrong a b c) = omega arith
@@ -82,7 +83,3 @@ module _ (sheet : Sheet) where
         go : (o : Option Refusal) → Found o → HasFault sheet f → o ≡ some f
         go none h r = absurd (right-or-fault h r)
         go (some g) h r = ap (λ (k : Refusal). some k) (fault-unique h r)
-
-    -- a text of the form is refused with one of the numbers 3 to 6
-    pub fault-numbers : (f : Refusal) → sheetFault sheet ≡ some f → (2 < f .number) × (f .number < 7)
-    fault-numbers f e = fault-number (fault-exactly f .0 e)

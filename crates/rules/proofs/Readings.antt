@@ -13,7 +13,8 @@ use Rattle.rules.specs.Texts.{Sheet, OfForm, StopsAt}
 use Rattle.rules.specs.Sheets.{Refusal, refusal, sheetFault, numbersOf, namesOf}
 use Rattle.rules.specs.Readings.{mostBytes, Reading, refused, taken, readingOf, Reads, too-long, not-of-form, of-form}
 use Rattle.rules.proofs.Texts.{sheet-unique, stops-unique}
-use Rattle.rules.proofs.Faults.{fault-numbers}
+use Rattle.rules.specs.SheetFaults.{IsRight, HasFault}
+use Rattle.rules.proofs.Faults.{right-exactly, fault-exactly, fault-number}
 
 -- one text has one answer
 pub one-reading : {s : List ℕ} {r r′ : Reading} → Reads s r → Reads s r′ → r ≡ r′
@@ -47,7 +48,7 @@ pub record Accepted (s : List ℕ) (q : Numbers) (names : List (List ℕ)) : Typ
   pub sheet : Sheet
   pub short : length s ≤ mostBytes
   pub form : OfForm s sheet
-  pub right : sheetFault sheet ≡ none
+  pub right : IsRight sheet
   pub numbersSaid : q ≡ numbersOf sheet
   pub namesSaid : names ≡ namesOf sheet
 
@@ -56,7 +57,7 @@ pub record Faulty (s : List ℕ) (number place : ℕ) : Type 0 where
   pub sheet : Sheet
   pub short : length s ≤ mostBytes
   pub form : OfForm s sheet
-  pub fault : sheetFault sheet ≡ some (refusal number place)
+  pub fault : HasFault sheet (refusal number place)
 
 -- a text is accepted, with its numbers and names, exactly if it is not too long, of the form, and counts, names and end number are right
 pub taken-exactly : (s : List ℕ) (q : Numbers) (names : List (List ℕ)) → Reads s (taken q names) ↔ Accepted s q names
@@ -66,7 +67,7 @@ taken-exactly s q names = (λ h. from h refl, into)
         → Accepted s q names
     of sheet l f e none h =
         let k = reading-taken sheet h in
-        record { sheet = sheet; short = l; form = f; right = h; numbersSaid = cc; namesSaid = cc }
+        record { sheet = sheet; short = l; form = f; right = right-exactly sheet f .0 h; numbersSaid = cc; namesSaid = cc }
     of sheet l f e (some g) h = absurd (refused-or-taken (sym (reading-refused sheet g h) ∙ e))
 
     from : {r : Reading} → Reads s r → r ≡ taken q names → Accepted s q names
@@ -75,7 +76,9 @@ taken-exactly s q names = (λ h. from h refl, into)
     from (of-form sheet l f) e = of sheet l f e (sheetFault sheet) refl
 
     into : Accepted s q names → Reads s (taken q names)
-    into a = rw (a .numbersSaid, a .namesSaid, ← (reading-taken (a .sheet) (a .right))) (of-form (a .sheet) (a .short) (a .form))
+    into a =
+        let none = right-exactly (a .sheet) (a .form) .1 (a .right) in
+        rw (a .numbersSaid, a .namesSaid, ← (reading-taken (a .sheet) none)) (of-form (a .sheet) (a .short) (a .form))
 
 -- what a refusal with this number and place can come from
 data Cause (s : List ℕ) (number place : ℕ) : Type 0 where
@@ -97,7 +100,7 @@ cause {s} {number} {place} h = from h refl
     of sheet l f e none h = absurd (refused-or-taken (sym e ∙ reading-taken sheet h))
     of sheet l f e (some g) h =
         let k : refused number place ≡ refused (g .number) (g .place) = sym e ∙ reading-refused sheet g h in
-        fault (record { sheet = sheet; short = l; form = f; fault = rw (number-is k, place-is k) h })
+        fault (record { sheet = sheet; short = l; form = f; fault = rw (number-is k, place-is k) (fault-exactly sheet f g .0 h) })
 
     from : {r : Reading} → Reads s r → r ≡ refused number place → Cause s number place
     from (too-long l) e = long (sym (number-is e)) (sym (place-is e)) l
@@ -106,7 +109,7 @@ cause {s} {number} {place} h = from h refl
 
 -- a fault's number is over 2
 fault-over : {s : List ℕ} {number place : ℕ} → Faulty s number place → 2 < number
-fault-over a = fault-numbers (a .sheet) (a .form) _ (a .fault) .0
+fault-over a = fault-number (a .sheet) (a .fault) .0
 
 -- a text is refused as too long exactly if it is over 8,192 bytes, and then at place 8,192
 pub too-long-exactly : (s : List ℕ) (p : ℕ) → Reads s (refused textTooLong p) ↔ ((mostBytes < length s) × (p ≡ mostBytes))
@@ -136,13 +139,15 @@ faulty-exactly s number p m = (λ h. from (cause h), into)
     from (fault a) = a
 
     into : Faulty s number p → Reads s (refused number p)
-    into a = rw (← (reading-refused (a .sheet) _ (a .fault))) (of-form (a .sheet) (a .short) (a .form))
+    into a =
+        let some = fault-exactly (a .sheet) (a .form) (refusal number p) .1 (a .fault) in
+        rw (← (reading-refused (a .sheet) (refusal number p) some)) (of-form (a .sheet) (a .short) (a .form))
 
--- no refusal has the number 0
-pub refused-some : {s : List ℕ} {number p : ℕ} → Reads s (refused number p) → number ≡ 0 → ⊥
-refused-some {s} {number} {p} h z = go (cause h)
+-- a refusal of a text has one of the numbers 1 to 6
+pub refused-numbers : {s : List ℕ} {number p : ℕ} → Reads s (refused number p) → (0 < number) × (number < 7)
+refused-numbers {s} {number} {p} h = go (cause h)
   where
-    go : Cause s number p → ⊥
-    go (long e q l) = omega arith
-    go (stops e l a) = omega arith
-    go (fault a) = omega (arith, fault-over a)
+    go : Cause s number p → (0 < number) × (number < 7)
+    go (long e q l) = (omega arith, omega arith)
+    go (stops e l a) = (omega arith, omega arith)
+    go (fault a) = let n = fault-number (a .sheet) (a .fault) in (omega arith, omega arith)

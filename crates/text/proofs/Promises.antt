@@ -8,18 +8,20 @@ use mathlib.Core.Option.{none, some}
 use Prim.Native.Nat.{ℕ, _≤_, _<_}
 use native.Mathlib.Omega.{arith}
 use lib.ListN.{length}
-use Rattle.rules.specs.Numbers.{unfit, jobOf}
+use Rattle.rules.specs.Numbers.{Numbers, unfit, jobOf}
 use Rattle.rules.specs.Refusals.{textTooLong, textNotOfForm}
 use Rattle.rules.specs.Texts.{Sheet, OfForm, StopsAt}
 use Rattle.rules.specs.Sheets.{sheetFault, needIn, numbersOf, namesOf}
+use Rattle.rules.specs.SheetFaults.{IsRight}
 use Rattle.rules.specs.Readings.{mostBytes, Reading, refused, taken, Reads, of-form}
 use Rattle.rules.proofs.Sheets.{sheet-fit, sheet-job}
-use Rattle.rules.proofs.Readings.{one-reading, reading-taken, refused-some, Faulty, taken-exactly, too-long-exactly, not-of-form-exactly, faulty-exactly}
+use Rattle.rules.proofs.Faults.{right-exactly}
+use Rattle.rules.proofs.Readings.{one-reading, reading-taken, refused-numbers, Accepted, Faulty, taken-exactly, too-long-exactly, not-of-form-exactly, faulty-exactly}
 use Rattle.job.specs.Records.{numbersIn, noJob}
 use Rattle.job.proofs.Records.{fit-numbers}
 use Rattle.text.specs.declared.JobRead.{JobRead}
 use Rattle.text.specs.Tables.{nameTable}
-use Rattle.text.specs.Promises.{readOf, Takes, Right}
+use Rattle.text.specs.Promises.{readOf, Takes}
 
 -- two answers that the promise allows are equal
 pub one-answer : {s : List ℕ} {r t : JobRead} → Takes s r → Takes s t → r ≡ t
@@ -30,7 +32,8 @@ one-answer a b = a .answered ∙ ap readOf (one-reading (a .reads) (b .reads)) �
 pub record Taken (s : List ℕ) (r : JobRead) : Type 0 where
   pub sheet : Sheet
   pub form : OfForm s sheet
-  pub right : sheetFault sheet ≡ none
+  pub right : IsRight sheet
+  pub place : r .place ≡ 0
   pub numbers : numbersIn (r .job) ≡ numbersOf sheet
   pub fit : unfit (numbersIn (r .job)) ≡ false
   pub job : jobOf (numbersIn (r .job))
@@ -86,36 +89,50 @@ module _ {s : List ℕ} {r : JobRead} (a : Takes s r) where
   pub fault-refused : (number p : ℕ) → 2 < number → Refuses number p ↔ Faulty s number p
   fault-refused number p h = through (refuses number p (λ z. omega arith)) (faulty-exactly s number p h)
 
+  -- there is no other number
+  pub refusal-numbers : r .refusal < 7
+  refusal-numbers = go (a .reading) (a .reads) (a .answered)
+    where
+      go : (w : Reading) → Reads s w → r ≡ readOf w → r .refusal < 7
+      go (refused number p) b e = let n = refused-numbers b in omega (arith, ap (λ (t : JobRead). t .refusal) e)
+      go (taken q names) b e = omega (arith, ap (λ (t : JobRead). t .refusal) e)
+
+  accepted : r .refusal ≡ 0 → (q : Numbers) × (names : List (List ℕ)) × Accepted s q names
+  accepted z = go (a .reading) (a .reads) (a .answered)
+    where
+      go : (w : Reading) → Reads s w → r ≡ readOf w → (q : Numbers) × (names : List (List ℕ)) × Accepted s q names
+      go (refused number p) b e = let n = refused-numbers b in absurd (omega (arith, ap (λ (t : JobRead). t .refusal) e, z))
+      go (taken q names) b e = (q, names, taken-exactly s q names .0 b)
+
   answer-of : (sheet : Sheet) → length s ≤ mostBytes → OfForm s sheet → sheetFault sheet ≡ none → r ≡ readOf (taken (numbersOf sheet) (namesOf sheet))
   answer-of sheet short form right =
       answer-as {w = taken (numbersOf sheet) (namesOf sheet)} (rw (← (reading-taken sheet right)) (of-form sheet short form))
 
-  -- a text is read exactly if it is not too long, of the form and without a fault
-  pub read-exactly : (r .refusal ≡ 0) ↔ ((length s ≤ mostBytes) × Right s)
+  -- a text is read exactly if it is not too long and of the form, and its counts, names and end number are right
+  pub read-exactly : (r .refusal ≡ 0) ↔ ((sheet : Sheet) × (length s ≤ mostBytes) × OfForm s sheet × IsRight sheet)
   read-exactly = (to, from)
     where
-      go : (w : Reading) → Reads s w → r ≡ readOf w → r .refusal ≡ 0 → (length s ≤ mostBytes) × Right s
-      go (refused number p) b e z = absurd (refused-some b (sym (ap (λ (t : JobRead). t .refusal) e) ∙ z))
-      go (taken q names) b e z = let k = taken-exactly s q names .0 b in (k .short, (k .sheet, k .form, k .right))
+      to : r .refusal ≡ 0 → (sheet : Sheet) × (length s ≤ mostBytes) × OfForm s sheet × IsRight sheet
+      to z = let k = accepted z .2 in (k .sheet, k .short, k .form, k .right)
 
-      to : r .refusal ≡ 0 → (length s ≤ mostBytes) × Right s
-      to = go (a .reading) (a .reads) (a .answered)
-
-      from : (length s ≤ mostBytes) × Right s → r .refusal ≡ 0
-      from h = ap (λ (t : JobRead). t .refusal) (answer-of (h .1 .0) (h .0) (h .1 .1) (h .1 .2))
+      from : (sheet : Sheet) × (length s ≤ mostBytes) × OfForm s sheet × IsRight sheet → r .refusal ≡ 0
+      from h = ap (λ (t : JobRead). t .refusal) (answer-of (h .0) (h .1) (h .2) (right-exactly (h .0) (h .2) .1 (h .3)))
 
   -- and then the answer is what it says
-  pub is-taken : (sheet : Sheet) → length s ≤ mostBytes → OfForm s sheet → sheetFault sheet ≡ none → Taken s r
-  is-taken sheet short form right =
-      let e = answer-of sheet short form right in
-      let fit : unfit (numbersOf sheet) ≡ false = sheet-fit s sheet form right in
-      let held : numbersIn (r .job) ≡ numbersOf sheet = ap (λ (t : JobRead). numbersIn (t .job)) e ∙ fit-numbers (numbersOf sheet) fit in
+  pub is-taken : r .refusal ≡ 0 → Taken s r
+  is-taken z =
+      let k = accepted z .2 in
+      let none : sheetFault (k .sheet) ≡ none = right-exactly (k .sheet) (k .form) .1 (k .right) in
+      let e = answer-of (k .sheet) (k .short) (k .form) none in
+      let fit : unfit (numbersOf (k .sheet)) ≡ false = sheet-fit s (k .sheet) (k .form) none in
+      let held : numbersIn (r .job) ≡ numbersOf (k .sheet) = ap (λ (t : JobRead). numbersIn (t .job)) e ∙ fit-numbers (numbersOf (k .sheet)) fit in
       record {
-        sheet = sheet;
-        form = form;
-        right = right;
+        sheet = k .sheet;
+        form = k .form;
+        right = k .right;
+        place = ap (λ (t : JobRead). t .place) e;
         numbers = held;
         fit = rw held fit;
-        job = rw held (sheet-job s sheet form right);
+        job = rw held (sheet-job s (k .sheet) (k .form) none);
         names = ap (λ (t : JobRead). t .names) e;
       }
