@@ -3,6 +3,8 @@ use crate::answers;
 use crate::repeats::put;
 use crate::spelling::ROOM;
 use naming::signs::byte;
+use naming::signs::digit;
+use naming::signs::letter;
 use std::num::wrapping_add_usize;
 use text::JobRead;
 use worked::print;
@@ -83,17 +85,34 @@ fn place_of(text: &[u8], drawn: u64) -> usize
     (drawn % (text.len() as u64 + 1)) as usize
 }
 
-// Writes a text with one byte left out, put in or changed, and says how many bytes it has.
+// Another byte of the same sort, so that a text of the form stays one: a letter for a letter, a digit for a digit.
+fn alike(old: u8, drawn: u64) -> u8 {
+    if letter(old) {
+        return b'a' + (drawn % 4) as u8;
+    }
+    if digit(old) {
+        return b'0' + (drawn % 10) as u8;
+    }
+    old
+}
+
+// The byte that is put in or stands for another.
+fn new_sign(old: u8, kind: u64, drawn: u64) -> u8 {
+    if kind == 3 { alike(old, drawn) } else { sign(drawn) }
+}
+
+// Writes a text with one byte left out, put in, or changed to any or to one of its sort, and says how many bytes it has.
 fn damage(text: &[u8], drawn: u64, other: &mut [u8]) -> usize
     ensures { λ r. ⌜ r ≤ lengthOf (now (other .entry)) ⌝ }
 {
     let place = place_of(text, drawn);
-    let kind = drawn / 1048576 % 3;
+    let kind = drawn / 1048576 % 4;
     let before = copied(text, 0, place, other, 0);
     if kind == 0 {
         return copied(text, place + 1, text.len(), other, before);
     }
-    let length = put(other, before, sign(drawn / 16777216));
+    let new = new_sign(byte(text, place), kind, drawn / 16777216);
+    let length = put(other, before, new);
     if kind == 1 {
         return copied(text, place, text.len(), other, length);
     }
