@@ -1,8 +1,11 @@
 // A machine that takes a text byte by byte. Its state is what the bytes so far say about the bytes that may come.
+use naming::signs::LINE_END;
+use naming::signs::digit;
+use naming::signs::in_name;
+use naming::signs::letter;
 ghost use mathlib.Core.Path.{_≡_};
 ghost use Prim.Native.Nat.{_<_};
 ghost use lib.ListN.{length};
-ghost use Rattle.rules.specs.Signs.{letter as letterByte, digit as digitByte, inName};
 ghost use Rattle.form.specs.Machine.{keyOf, valueOf, along as alongKey, inKey, atLine, joining, atItem, behindItem, nameOn, inNumber};
 ghost use Rattle.form.specs.Machine.{step as stepped, Sound};
 
@@ -20,8 +23,6 @@ const MOST_NAME_BYTES: usize = 12;
 
 // "Brackets nested at most 8."
 const MOST_BRACKETS: usize = 8;
-
-const LINE_END: u8 = b'\n';
 
 pub enum State {
     Key(usize, usize), // section, bytes of its key that stand
@@ -41,7 +42,7 @@ pub fn step(state: State, byte: u8) -> State
     match state {
         State::Key(section, k) => in_key(section, k, byte),
         State::Begin(section) => at_line(section, byte),
-        State::Name(section, length, opened) => in_name(section, length, opened, byte),
+        State::Name(section, length, opened) => name_on(section, length, opened, byte),
         State::Closed(opened) => behind_item(NEED, opened, byte),
         State::Number(digits) => in_number(digits, byte),
         State::Done => State::Wrong,
@@ -112,13 +113,13 @@ fn at_line(section: usize, byte: u8) -> State
 }
 
 // So many bytes of a name stand.
-fn in_name(section: usize, length: usize, opened: usize, byte: u8) -> State
+fn name_on(section: usize, length: usize, opened: usize, byte: u8) -> State
     ensures { λ r. ⌜ r ≡ nameOn section length opened byte ⌝ }
 {
     if length == 0 {
         return at_item(section, opened, byte);
     }
-    if !name_byte(byte) {
+    if !in_name(byte) {
         return behind_item(section, opened, byte);
     }
     if length < MOST_NAME_BYTES {
@@ -211,22 +212,4 @@ fn joins(section: usize, byte: u8) -> bool
         return section == NEED;
     }
     false
-}
-
-fn name_byte(byte: u8) -> bool
-    ensures { λ r. ⌜ r ≡ inName byte ⌝ }
-{
-    letter(byte) || digit(byte)
-}
-
-fn letter(byte: u8) -> bool
-    ensures { λ r. ⌜ r ≡ letterByte byte ⌝ }
-{
-    b'a' <= byte && byte <= b'z'
-}
-
-fn digit(byte: u8) -> bool
-    ensures { λ r. ⌜ r ≡ digitByte byte ⌝ }
-{
-    b'0' <= byte && byte <= b'9'
 }

@@ -12,7 +12,7 @@ use Rattle.form.proofs.machine.at_item.Statement.{statement}
 use Rattle.form.proofs.machine.at_item.Tie as tie
 use Rattle.form.proofs.machine.at_item.Reads as reads
 use Rattle.form.proofs.machine.at_item.Lts as lts
-use Rattle.form.proofs.machine.letter.Reads as letter-reads
+use Rattle.naming.proofs.signs.letter.Reads as letter-reads
 
 -- what an opening bracket leads to
 bracket-came : (b : lts.Else2 (letter-reads.Asked, letter-reads.Learnt) reads.Pre reads.Post) → let a = b .before .before .before .args in

@@ -10,7 +10,7 @@ use Rattle.form.proofs.machine.in_number.Statement.{statement}
 use Rattle.form.proofs.machine.in_number.Tie as tie
 use Rattle.form.proofs.machine.in_number.Reads as reads
 use Rattle.form.proofs.machine.in_number.Lts as lts
-use Rattle.form.proofs.machine.digit.Reads as digit-reads
+use Rattle.naming.proofs.signs.digit.Reads as digit-reads
 
 -- what a digit leads to
 digit-came : (d : lts.Else3 (digit-reads.Asked, digit-reads.Learnt) reads.Pre reads.Post) → let a = d .before .before .before .args in

@@ -18,8 +18,8 @@ at-line-requires c κs = search needs
 enum-known-state-3 : tie.Need-enum-known-state-3
 enum-known-state-3 c = search needs
 
-in-name-requires : tie.Need-in-name-requires
-in-name-requires c κs = search needs
+name-on-requires : tie.Need-name-on-requires
+name-on-requires c κs = search needs
 
 enum-known-state-4 : tie.Need-enum-known-state-4
 enum-known-state-4 c = search needs
@@ -46,7 +46,7 @@ returns-2 : tie.Need-returns-2
 returns-2 c = rw (c .before .before .state2 .given .1) (c .at-line .ensures)
 
 returns-3 : tie.Need-returns-3
-returns-3 c = rw (c .before .before .state3 .given .1) (c .in-name .ensures)
+returns-3 c = rw (c .before .before .state3 .given .1) (c .name-on .ensures)
 
 returns-4 : tie.Need-returns-4
 returns-4 c = rw (c .before .before .state4 .given .1) (c .behind-item .ensures)
@@ -69,7 +69,7 @@ step-spec =
     enum-known-state-2
     at-line-requires
     enum-known-state-3
-    in-name-requires
+    name-on-requires
     enum-known-state-4
     behind-item-requires
     enum-known-state-5

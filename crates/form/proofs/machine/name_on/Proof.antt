@@ -1,4 +1,4 @@
--- `form::machine::in_name` meets its contract. Assumes nothing.
+-- `form::machine::name_on` meets its contract. Assumes nothing.
 use mathlib.Core.Path.{_≡_, sym, _∙_}
 use mathlib.Core.Bool.{cond}
 use Prim.Native.Nat.{_+_}
@@ -8,32 +8,32 @@ use borrow.Author.Tests.{lt-ltb, le-ltb, not-true, not-false}
 use Rattle.form.specs.declared.machine.State.the-variants.{Name, Wrong}
 use Rattle.form.specs.Machine.{behindItem, nameOn}
 use Rattle.form.proofs.Branches.{name-none, name-some}
-use Rattle.form.proofs.machine.in_name.Statement.{statement}
-use Rattle.form.proofs.machine.in_name.Tie as tie
-use Rattle.form.proofs.machine.in_name.Reads as reads
-use Rattle.form.proofs.machine.in_name.Lts as lts
+use Rattle.form.proofs.machine.name_on.Statement.{statement}
+use Rattle.form.proofs.machine.name_on.Tie as tie
+use Rattle.form.proofs.machine.name_on.Reads as reads
+use Rattle.form.proofs.machine.name_on.Lts as lts
 use Rattle.form.proofs.machine.at_item.Reads as at-item-reads
 use Rattle.form.proofs.machine.behind_item.Reads as behind-item-reads
-use Rattle.form.proofs.machine.name_byte.Reads as name-byte-reads
+use Rattle.naming.proofs.signs.in_name.Reads as in-name-reads
 
 abbrev claims : lts.Claims
 claims = (
   at-item-reads.Asked,
   at-item-reads.Learnt,
-  name-byte-reads.Asked,
-  name-byte-reads.Learnt,
+  in-name-reads.Asked,
+  in-name-reads.Learnt,
   behind-item-reads.Asked,
   behind-item-reads.Learnt,
 )
 
 -- what a byte behind the first bytes of a name leads to
-named : (n : lts.After-name-byte claims reads.Pre reads.Post) → let a = n .before .before .args in
+named : (n : lts.After-in-name claims reads.Pre reads.Post) → let a = n .before .before .args in
     nameOn (a .section) (a .length) (a .opened) (a .byte)
-    ≡ cond (n .name-byte .result) (cond (ltb (a .length) 12) (Name (a .section) (a .length + 1) (a .opened)) Wrong)
+    ≡ cond (n .in-name .result) (cond (ltb (a .length) 12) (Name (a .section) (a .length + 1) (a .opened)) Wrong)
     (behindItem (a .section) (a .opened) (a .byte))
 named n =
     let a = n .before .before .args in
-    rw (name-some (a .section) (a .length) (a .opened) (a .byte) (n .before .if1 .left), n .name-byte .ensures)
+    rw (name-some (a .section) (a .length) (a .opened) (a .byte) (n .before .if1 .left), n .in-name .ensures)
 
 at-item-requires : tie.Need-at-item-requires
 at-item-requires c κs = search needs
@@ -43,14 +43,14 @@ returns c =
     let a = c .before .before .args in
     c .at-item .ensures ∙ sym (name-none (a .section) (a .length) (a .opened) (a .byte) (c .before .if1 .taken))
 
-name-byte-requires : tie.Need-name-byte-requires
-name-byte-requires c κs = search needs
+in-name-requires : tie.Need-in-name-requires
+in-name-requires c κs = search needs
 
 behind-item-requires : tie.Need-behind-item-requires
 behind-item-requires c κs = search needs
 
 returns-2 : tie.Need-returns-2
-returns-2 c = let n = c .before .before in rw (named n, not-true (n .name-byte .result) (c .before .if2 .taken)) (c .behind-item .ensures)
+returns-2 c = let n = c .before .before in rw (named n, not-true (n .in-name .result) (c .before .if2 .taken)) (c .behind-item .ensures)
 
 add-t7 : tie.Need-add-t7
 add-t7 c = search needs
@@ -58,13 +58,13 @@ add-t7 c = search needs
 returns-3 : tie.Need-returns-3
 returns-3 c =
     let n = c .before .before in
-    rw (named n, not-false (n .name-byte .result) (c .before .if2 .left), lt-ltb (n .before .before .args .length) 12 (c .if3 .taken))
+    rw (named n, not-false (n .in-name .result) (c .before .if2 .left), lt-ltb (n .before .before .args .length) 12 (c .if3 .taken))
 
 returns-4 : tie.Need-returns-4
 returns-4 c =
     let n = c .before .before in
-    rw (named n, not-false (n .name-byte .result) (c .before .if2 .left), le-ltb (n .before .before .args .length) 12 (c .if3 .left))
+    rw (named n, not-false (n .in-name .result) (c .before .if2 .left), le-ltb (n .before .before .args .length) 12 (c .if3 .left))
 
-pub in-name-spec : {M : Type 1} → statement M
-in-name-spec =
-    tie.close (tie.spec at-item-requires returns name-byte-requires behind-item-requires returns-2 add-t7 returns-3 returns-4)
+pub name-on-spec : {M : Type 1} → statement M
+name-on-spec =
+    tie.close (tie.spec at-item-requires returns in-name-requires behind-item-requires returns-2 add-t7 returns-3 returns-4)
