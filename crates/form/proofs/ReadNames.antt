@@ -1,10 +1,9 @@
 -- Names and lists of names, read off the states of a text that leads to the end. Assumes nothing.
-use mathlib.Core.Path.{_≡_, sym, ap, subst, _∙_}
+use mathlib.Core.Path.{_≡_, sym, subst, _∙_}
 use mathlib.Core.Logic.{_⊎_, inl, inr, ⊎-elim}
 use mathlib.Core.Bool.{true, false, cond}
 use mathlib.Core.List.{List, [], _∷_}
 use Prim.Native.Nat.{ℕ, zero, suc, _+_, _<_, _≤_}
-use native.Mathlib.Nat.{eq-or-lt-of-le}
 use native.Mathlib.Omega.{arith}
 use lib.Dec.{ltb, eqb, lit≤}
 use lib.ListN.{length}
@@ -12,6 +11,7 @@ use borrow.Author.Tests.{ltb-true, eqb-true, eqb-false}
 use Rattle.rules.specs.Signs.{byteAt, letter, inName, lineEnd, bracketOpen, bracketClose}
 use Rattle.rules.specs.Names.{Name as NameAt, Names, spot, last-name, more-names}
 use Rattle.rules.proofs.Signs.{letter-named}
+use Rattle.naming.proofs.Walks.{from-more}
 use Rattle.form.specs.declared.machine.State.{State}
 use Rattle.form.specs.declared.machine.State.the-variants.{Begin, Name, Done, Wrong}
 use Rattle.form.specs.Machine.{joining, behindItem, step, run, stateAt}
@@ -52,13 +52,8 @@ module _ {s : List ℕ} (led : LeadsToEnd s) where
       (λ over. inr (over .0, (within led i (Name section (suc n) opened) not-name e, over .1)))
       (either led (i + 1) (inName (byteAt s i)) _ _ (goes led i (Name section (suc n) opened) not-name e))
 
-  named-more : (p i : ℕ) → NamedTo s p i → inName (byteAt s i) ≡ true → NamedTo s p (i + 1)
-  named-more p i so e j h g =
-      let upTo : j ≤ i = omega arith in
-      ⊎-elim (λ same. ap (λ (k : ℕ). inName (byteAt s k)) same ∙ e) (λ below. so j h below) (eq-or-lt-of-le upTo)
-
   named-one : (p : ℕ) → letter (byteAt s p) ≡ true → NamedTo s p (p + 1)
-  named-one p l j h g = let same : j ≡ p = omega arith in ap (λ (k : ℕ). inName (byteAt s k)) same ∙ letter-named (byteAt s p) l
+  named-one p l = from-more (λ (j : ℕ). inName (byteAt s j) ≡ true) (λ j h g. absurd (omega arith)) (letter-named (byteAt s p) l)
 
   name-ends : (section opened p n : ℕ) → suc n ≤ 12 → letter (byteAt s p) ≡ true → NamedTo s p (p + suc n) → inName (byteAt s (p + suc n)) ≡ false
       → Past s section opened (p + suc n) → NameFrom s section opened p
@@ -78,7 +73,7 @@ module _ {s : List ℕ} (led : LeadsToEnd s) where
       let to : stateAt s (i + 1) ≡ Name section (suc (suc n)) opened → stateAt s (p + suc (suc n)) ≡ Name section (suc (suc n)) opened =
       subst (λ (q : ℕ). stateAt s q ≡ Name section (suc (suc n)) opened) place in
       ⊎-elim
-      (λ on. name-on left section opened p (suc n) (omega arith) (on .1) l (subst (NamedTo s p) place (named-more p i so (on .0))) (to (on .2)))
+      (λ on. name-on left section opened p (suc n) (omega arith) (on .1) l (subst (NamedTo s p) place (from-more (λ (j : ℕ). inName (byteAt s j) ≡ true) so (on .0))) (to (on .2)))
       (λ over. name-ends section opened p n g l so (over .0) (over .1))
       (name-step section opened n i e)
 

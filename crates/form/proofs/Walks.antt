@@ -1,7 +1,7 @@
 -- From the form to the machine: each part of a text of the form leads from the state before it to the state behind it. Assumes nothing.
 use Prim.{Unit}
 use mathlib.Core.Path.{_≡_, refl, sym, ap, subst, _∙_}
-use mathlib.Core.Bool.{Bool, true, false, cond, true≢false}
+use mathlib.Core.Bool.{Bool, true, false, cond}
 use mathlib.Core.List.{List}
 use Prim.Native.Nat.{ℕ, zero, suc, _+_, _-_, _<_, _≤_}
 use native.Mathlib.Numerals.{add-one}
@@ -14,7 +14,8 @@ use Rattle.rules.specs.Signs.{byteAt, lineEnd, comma, plus, ampersand, bar, bra
 use Rattle.rules.specs.Names.{Name as NameAt, Names, Spot, last-name, more-names}
 use Rattle.rules.specs.Phrases.{Kind, item, list, rest, Join, ors, ands, operand, signOf, Formula, Stands, first, last, next, name, bracketed}
 use Rattle.rules.specs.Texts.{Line, Lines, no-line, one-line, Number as NumberAt, one-digit, two-digits, HasForm}
-use Rattle.rules.proofs.Signs.{inside, letter-named, named-not-0, says-first}
+use Rattle.rules.proofs.Signs.{inside, letter-named, named-inside, says-first}
+use Rattle.rules.proofs.Names.{name-some}
 use Rattle.form.specs.declared.machine.State.{State}
 use Rattle.form.specs.declared.machine.State.the-variants.{Key, Begin, Name, Closed, Number, Done, Wrong}
 use Rattle.form.specs.Machine.{keyOf, valueOf, joining, behindItem, step, begin, run, stateAt}
@@ -57,7 +58,7 @@ module _ (s : List ℕ) where
       → (n : ℕ) → p + suc n ≤ q → stateAt s (p + suc n) ≡ Name section (suc n) opened
   name-goes section opened p q here e zero h =
       let b = byteAt s p in
-      state-from p (Name section 0 opened) (inside s p (named-not-0 b (letter-named b (here .begins)))) e
+      state-from p (Name section 0 opened) (named-inside s p (letter-named b (here .begins))) e
       ∙ chosen (letter b) (Name section 1 opened) _ (here .begins)
   name-goes section opened p q here e (suc n) h =
       let i = p + suc n in
@@ -65,7 +66,7 @@ module _ (s : List ℕ) where
       let short = here .short in
       let named : inName b ≡ true = here .run .goesOn i (omega arith) (omega arith) in
       let on : stateAt s (i + 1) ≡ Name section (suc (suc n)) opened =
-      state-from i (Name section (suc n) opened) (inside s i (named-not-0 b named)) (name-goes section opened p q here e n (omega arith))
+      state-from i (Name section (suc n) opened) (named-inside s i named) (name-goes section opened p q here e n (omega arith))
       ∙ chosen (inName b) _ (behindItem section opened b) named
       ∙ chosen (ltb (suc n) 12) (Name section (suc (suc n)) opened) Wrong (lt-ltb (suc n) 12 (omega arith)) in
       let place : i + 1 ≡ p + suc (suc n) = omega arith in
@@ -73,9 +74,7 @@ module _ (s : List ℕ) where
 
   name-walk : (section opened p q : ℕ) → NameAt s p q → stateAt s p ≡ Name section 0 opened → Behind section opened q
   name-walk section opened p q here e h =
-      let forward = here .run .forward in
-      let apart : p ≡ q → ⊥ =
-      λ same. true≢false (sym (letter-named (byteAt s p) (here .begins)) ∙ ap (λ (i : ℕ). inName (byteAt s i)) same ∙ here .run .ends) in
+      let some = name-some here in
       let n = q - suc p in
       let place : p + suc n ≡ q = omega arith in
       let at : stateAt s q ≡ Name section (suc n) opened =

@@ -1,16 +1,16 @@
 -- An item in brackets, and one that is a name. Assumes nothing.
-use mathlib.Core.Path.{_≡_, refl, sym, ap, _∙_}
-use mathlib.Core.Bool.{false≢true}
+use mathlib.Core.Path.{_≡_, refl, ap, _∙_}
 use mathlib.Core.List.{List, [], _∷_, _++_}
 use Prim.Native.Nat.{ℕ, _+_, _<_, _≤_}
 use native.Mathlib.Omega.{arith}
 use lib.ListN.{length, set, take}
-use Rattle.rules.specs.Signs.{byteAt, letter, bracketOpen}
-use Rattle.rules.specs.Names.{Spot, spot, Run, Name}
+use Rattle.rules.specs.Signs.{byteAt, bracketOpen}
+use Rattle.rules.specs.Names.{Spot, spot, Run}
 use Rattle.rules.specs.Phrases.{Formula, ors, item, list, Stands, name, bracketed}
 use Rattle.rules.specs.Sheets.{columnIn, marksIn}
 use Rattle.rules.proofs.Signs.{inside}
 use Rattle.rules.proofs.Names.{run-unique}
+use Rattle.rules.proofs.Phrases.{name-or-bracket}
 use Rattle.naming.specs.Words.{Words, columnsFrom}
 use Rattle.phrases.specs.declared.Read.{Read}
 use Rattle.phrases.specs.Readers.{Readable, Marked}
@@ -26,14 +26,10 @@ pub bracket-within : (s : List ℕ) (p : ℕ) → byteAt s p ≡ bracketOpen →
 bracket-within s p e = inside s p (λ z. omega arith)
 
 module _ {s : List ℕ} {p : ℕ} where
-  -- no name begins with a bracket
-  no-name : {C : Type 0} {q : ℕ} → Name s p q → byteAt s p ≡ bracketOpen → C
-  no-name a e = absurd (false≢true (sym (ap letter e) ∙ a .begins))
-
   -- an item that begins with a bracket is an or-list in brackets, and the closing one lies within the text
   in-bracket : {deep q : ℕ} {v : Formula} → Stands s item deep p q v → byteAt s p ≡ bracketOpen
       → (inner r : ℕ) × Stands s (list ors) inner (p + 1) r v × (r < length s)
-  in-bracket (name a) e = no-name a e
+  in-bracket (name a) e = absurd (name-or-bracket a e)
   in-bracket (bracketed {deep} {q} f x g) e = (deep, q, x, inside s q (λ z. omega arith))
 
   module _ {n : ℕ} (e : byteAt s p ≡ bracketOpen) where
@@ -52,7 +48,7 @@ module _ {s : List ℕ} {p : ℕ} where
 
       -- the item is read behind the closing bracket
       pub bracket-done : Marked s item p n old (read (r .at + 1) (r .marked)) new
-      bracket-done deep q v (name a) = no-name a e
+      bracket-done deep q v (name a) = absurd (name-or-bracket a e)
       bracket-done deep q v (bracketed {deep = inner} {q = to} f x g) =
           let w = m inner to v x in
           record { at = ap (λ (k : ℕ). k + 1) (w .at); marked = w .marked; marks = w .marks }

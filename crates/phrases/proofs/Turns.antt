@@ -10,7 +10,7 @@ use Rattle.rules.specs.Signs.{byteAt}
 use Rattle.rules.specs.Phrases.{Formula, Join, ors, ands, signOf, joinOf, list, rest, operand, Stands, first, last, next}
 use Rattle.rules.specs.Sheets.{marksIn}
 use Rattle.rules.proofs.Signs.{inside}
-use Rattle.rules.proofs.Phrases.{phrase-unique, phrase-moves}
+use Rattle.rules.proofs.Phrases.{phrase-unique, operand-moves, phrase-moves}
 use Rattle.phrases.specs.declared.Read.{Read}
 use Rattle.phrases.specs.Readers.{marksLong, Readable, Wrote, Marked}
 use Rattle.phrases.proofs.Counts.{markOf, marks-join, long-join, rest-long}
@@ -22,11 +22,6 @@ read place count = record { at = place; marked = count }
 -- one more mark behind the first n
 pub take-set : (xs : List ℕ) (n x : ℕ) → n < length xs → take (n + 1) (set xs n x) ≡ take n xs ++ (x ∷ [])
 take-set xs n x h = rw add-one (take-suc-set xs n x h)
-
--- an operand goes on by a byte or more
-operand-moves : {s : List ℕ} {deep p q : ℕ} {v : Formula} (j : Join) → Stands s (operand j) deep p q v → p < q
-operand-moves ors d = phrase-moves d
-operand-moves ands d = phrase-moves d
 
 -- a join's sign lies within the text
 pub sign-within : (s : List ℕ) (p : ℕ) (j : Join) → byteAt s p ≡ signOf j → p < length s
@@ -104,7 +99,7 @@ module _ {s : List ℕ} {j : Join} where
         one = rw (w .at) (b .2);
         others = rw (w .at) (b .3);
         left = rw (w .at) (b .3);
-        forward = omega (arith, w .at, operand-moves j (b .2));
+        forward = omega (arith, w .at, operand-moves j (phrase-moves (b .2)));
         counted = w .marked;
         fits = omega (arith, a .fits, l);
         long = refl;
@@ -132,7 +127,7 @@ module _ {s : List ℕ} {j : Join} where
           let b = another (t .left) e in
           let w = m (t .deep) (b .0) (b .1) (b .2) in (
             omega (arith, t .counted, t .fits, t .long, l, w .marked, rest-long (b .3), long-join [] j (t .said) (b .1)),
-            omega (arith, w .at, operand-moves j (b .2)),
+            omega (arith, w .at, operand-moves j (phrase-moves (b .2))),
           )
 
       -- with the join's mark the loop goes on behind it

@@ -14,7 +14,7 @@ use Rattle.rules.proofs.Names.{run-unique, name-some}
 -- ---- one way
 
 -- no name begins with a bracket
-name-or-bracket : {s : List ℕ} {p q : ℕ} → Name s p q → byteAt s p ≡ bracketOpen → ⊥
+pub name-or-bracket : {s : List ℕ} {p q : ℕ} → Name s p q → byteAt s p ≡ bracketOpen → ⊥
 name-or-bracket {s} {p} a e = let l = leb-true 97 (byteAt s p) (and-parts _ _ (a .begins) .0) in omega arith
 
 -- from one place a phrase of one kind goes to one place only and says one thing, whatever brackets are allowed
@@ -46,7 +46,8 @@ Moves item p q = p < q
 Moves (list j) p q = p < q
 Moves (rest j v) p q = p ≤ q
 
-operand-moves : (j : Join) {p q : ℕ} → Moves (operand j) p q → p < q
+-- what moves as an operand does goes on by a byte or more
+pub operand-moves : (j : Join) {p q : ℕ} → Moves (operand j) p q → p < q
 operand-moves ors l = l
 operand-moves ands l = l
 
