@@ -42,10 +42,10 @@ ending-open section zero h = absurd (h refl)
 ending-open section (suc opened) h = refl
 
 -- no byte of a name stands, or some do
-pub name-none : (section n opened b : ℕ) → n ≡ 0 → nameOn section n opened b ≡ atItem section opened b
-name-none section n opened b e = rw e
+pub name-on-none : (section n opened b : ℕ) → n ≡ 0 → nameOn section n opened b ≡ atItem section opened b
+name-on-none section n opened b e = rw e
 
-pub name-some : (section n opened b : ℕ) → (n ≡ 0 → ⊥)
+pub name-on-some : (section n opened b : ℕ) → (n ≡ 0 → ⊥)
     → nameOn section n opened b ≡ cond (inName b) (cond (ltb n mostNameBytes) (Name section (n + 1) opened) Wrong) (behindItem section opened b)
-name-some section zero opened b h = absurd (h refl)
-name-some section (suc n) opened b h = rw (add-one (suc n))
+name-on-some section zero opened b h = absurd (h refl)
+name-on-some section (suc n) opened b h = rw (add-one (suc n))

@@ -2,13 +2,13 @@
 pub mod Signs
 pub mod Keys
 pub mod Runs
-pub mod Soundness
+pub mod InsideKeys
 pub mod Completions
 pub mod Walks
 pub mod Living
 pub mod ReadNames
 pub mod ReadPhrases
 pub mod ReadLines
-pub mod Readable
+pub mod ReadTexts
 pub mod Places
 pub mod Branches

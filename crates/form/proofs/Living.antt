@@ -57,7 +57,7 @@ module _ {s : List ℕ} (led : LeadsToEnd s) where
   must p false x e = absurd (alive p e)
 
   -- a test holds or fails, and the state is the one chosen
-  pub either : (p : ℕ) (test : Bool) (x y : State) → stateAt s p ≡ cond test x y
+  pub forks : (p : ℕ) (test : Bool) (x y : State) → stateAt s p ≡ cond test x y
       → ((test ≡ true) × (stateAt s p ≡ x)) ⊎ ((test ≡ false) × (stateAt s p ≡ y))
-  either p true x y e = inl (refl, e)
-  either p false x y e = inr (refl, e)
+  forks p true x y e = inl (refl, e)
+  forks p false x y e = inr (refl, e)

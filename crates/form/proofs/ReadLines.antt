@@ -15,8 +15,8 @@ use Rattle.rules.specs.Texts.{Line, line, Lines, no-line, one-line, Number as N
 use Rattle.form.specs.declared.machine.State.the-variants.{Key, Begin, Name, Number, Done, Wrong}
 use Rattle.form.specs.Machine.{keyOf, valueOf, step, stateAt}
 use Rattle.form.proofs.Keys.{key-said}
-use Rattle.form.proofs.Runs.{chosen, passed}
-use Rattle.form.proofs.Living.{LeadsToEnd, decided, not-key, not-line, not-number, alive, within, goes, must, either}
+use Rattle.form.proofs.Runs.{cond-holds, cond-fails}
+use Rattle.form.proofs.Living.{LeadsToEnd, decided, not-key, not-line, not-number, alive, within, goes, must, forks}
 use Rattle.form.proofs.ReadNames.{ValueFrom}
 
 -- a number from place p on, and the end of its line
@@ -39,13 +39,13 @@ module _ {s : List ℕ} (led : LeadsToEnd s) where
       let here = must led (p + 1) (eqb (byteAt s p) (getD key k 0)) _ (goes led p (Key section k) not-key e) in
       let over : drop (suc k) key ≡ [] = drop-of-length-le key {i = suc k} (omega arith) in (
         rw (drop-cons key k 0 (omega arith), over) (says-byte (eqb-true (byteAt s p) (getD key k 0) (here .0)) says-all),
-        here .1 ∙ passed (ltb (suc k) (length key)) _ _ (le-ltb (suc k) (length key) (omega arith)),
+        here .1 ∙ cond-fails (ltb (suc k) (length key)) _ _ (le-ltb (suc k) (length key) (omega arith)),
       )
   read-key (suc left) section k p h e =
       let key = keyOf section in
       let here = must led (p + 1) (eqb (byteAt s p) (getD key k 0)) _ (goes led p (Key section k) not-key e) in
       let on : stateAt s (p + 1) ≡ Key section (suc k) =
-      here .1 ∙ chosen (ltb (suc k) (length key)) _ _ (lt-ltb (suc k) (length key) (omega arith)) in
+      here .1 ∙ cond-holds (ltb (suc k) (length key)) _ _ (lt-ltb (suc k) (length key) (omega arith)) in
       let more = read-key left section (suc k) (suc p) (omega arith) (subst (λ (q : ℕ). stateAt s q ≡ Key section (suc k)) (add-one p) on) in
       let place : suc p + suc left ≡ p + suc (suc left) = omega arith in (
         rw (drop-cons key k 0 (omega arith)) (says-byte (eqb-true (byteAt s p) (getD key k 0) (here .0)) (more .0)),
@@ -73,9 +73,9 @@ module _ {s : List ℕ} (led : LeadsToEnd s) where
       (starts : (before : ℕ) → Fits before → step (Begin before) (getD (keyOf section) 0 0) ≡ Key section 1)
       (again : Fits section)
       (read-value : (p : ℕ) → stateAt s p ≡ Name section 0 0 → ValueFrom s section Value p) where
-    lines-more : (before p : ℕ) → Says s p (keyOf section) → (value : ValueFrom s section Value (p + length (keyOf section)))
+    another-line : (before p : ℕ) → Says s p (keyOf section) → (value : ValueFrom s section Value (p + length (keyOf section)))
         → LinesFrom s section Value section (value .0 + 1) → LinesFrom s section Value before p
-    lines-more before p said value more = (
+    another-line before p said value more = (
       more .0,
       line p (value .1) ∷ more .1,
       one-line said (value .3) (value .4) (more .2),
@@ -99,7 +99,7 @@ module _ {s : List ℕ} (led : LeadsToEnd s) where
         let said = read-line section before p long (starts before fits) (eqb-true b (getD key 0 0) on) e in
         let value = read-value (p + length key) (said .1 ∙ valued) in
         let forward = value .2 in
-        lines-more before p (said .0) value (read-lines left section (value .0 + 1) (omega arith) again (value .5)))
+        another-line before p (said .0) value (read-lines left section (value .0 + 1) (omega arith) again (value .5)))
         (λ over. lines-last before p (eqb-false b (getD key 0 0) over) e)
         (decided (eqb b (getD key 0 0)))
 
@@ -113,7 +113,7 @@ module _ {s : List ℕ} (led : LeadsToEnd s) where
   number-step p digits e =
       let b = byteAt s p in
       ⊎-elim (λ ended. inl (eqb-true b lineEnd (ended .0), ended .1)) (λ on. inr (must led (p + 1) (digit b) _ (on .1)))
-      (either led (p + 1) (eqb b lineEnd) _ _ (goes led p (Number digits) not-number e))
+      (forks led (p + 1) (eqb b lineEnd) _ _ (goes led p (Number digits) not-number e))
 
   -- behind a first digit 0
   zero-number : (p : ℕ) → digit (byteAt s p) ≡ true → stateAt s (p + 1) ≡ Number 1 → NumberFrom s p
@@ -147,7 +147,7 @@ module _ {s : List ℕ} (led : LeadsToEnd s) where
       ⊎-elim
       (λ zeroth. zero-number p d (zeroth .1))
       (λ other. other-number p d (eqb-false b 48 (other .0)) (other .1))
-      (either led (p + 1) (eqb b 48) _ _ e)
+      (forks led (p + 1) (eqb b 48) _ _ e)
 
   -- the number can be read behind its key
   pub read-number : (p : ℕ) → stateAt s p ≡ Number 0 → NumberFrom s p

@@ -15,16 +15,16 @@ use Rattle.naming.proofs.Walks.{from-more}
 use Rattle.form.specs.declared.machine.State.{State}
 use Rattle.form.specs.declared.machine.State.the-variants.{Begin, Name, Done, Wrong}
 use Rattle.form.specs.Machine.{joining, behindItem, step, run, stateAt}
-use Rattle.form.proofs.Runs.{passed}
-use Rattle.form.proofs.Living.{LeadsToEnd, not-name, alive, within, goes, must, either}
+use Rattle.form.proofs.Runs.{cond-fails}
+use Rattle.form.proofs.Living.{LeadsToEnd, not-name, alive, within, goes, must, forks}
 
 -- an item of a section stands before place q, so many brackets are open there, and a byte follows
-abbrev pub Past : List ℕ → ℕ → ℕ → ℕ → Type 0
-Past s section opened q = (q < length s) × (stateAt s (q + 1) ≡ behindItem section opened (byteAt s q))
+abbrev pub ItemEnds : List ℕ → ℕ → ℕ → ℕ → Type 0
+ItemEnds s section opened q = (q < length s) × (stateAt s (q + 1) ≡ behindItem section opened (byteAt s q))
 
 -- a name from place p on
 abbrev pub NameFrom : List ℕ → ℕ → ℕ → ℕ → Type 0
-NameFrom s section opened p = (q : ℕ) × (p < q) × NameAt s p q × (Past s section opened q)
+NameFrom s section opened p = (q : ℕ) × (p < q) × NameAt s p q × (ItemEnds s section opened q)
 
 -- a value of a section from place p on, and the end of its line
 abbrev pub ValueFrom : {A : Type 0} → List ℕ → ℕ → (ℕ → ℕ → A → Type 0) → ℕ → Type 0
@@ -36,27 +36,27 @@ NamedTo s p i = (j : ℕ) → p ≤ j → j < i → inName (byteAt s j) ≡ true
 
 module _ {s : List ℕ} (led : LeadsToEnd s) where
   -- a state that takes the next byte as behind an item
-  pub past-from : (section opened q : ℕ) (state : State) → (state ≡ Done → ⊥) → stateAt s q ≡ state
-      → step state (byteAt s q) ≡ behindItem section opened (byteAt s q) → Past s section opened q
-  past-from section opened q state h e f = (within led q state h e, goes led q state h e ∙ f)
+  pub item-ends : (section opened q : ℕ) (state : State) → (state ≡ Done → ⊥) → stateAt s q ≡ state
+      → step state (byteAt s q) ≡ behindItem section opened (byteAt s q) → ItemEnds s section opened q
+  item-ends section opened q state h e f = (within led q state h e, goes led q state h e ∙ f)
 
   -- ---- one name
 
   -- another byte of the name comes, or the name has ended
   name-step : (section opened n i : ℕ) → stateAt s i ≡ Name section (suc n) opened
       → ((inName (byteAt s i) ≡ true) × (suc n < 12) × (stateAt s (i + 1) ≡ Name section (suc (suc n)) opened))
-      ⊎ ((inName (byteAt s i) ≡ false) × (Past s section opened i))
+      ⊎ ((inName (byteAt s i) ≡ false) × (ItemEnds s section opened i))
   name-step section opened n i e =
       ⊎-elim
       (λ on. let room = must led (i + 1) (ltb (suc n) 12) _ (on .1) in inl (on .0, ltb-true (suc n) 12 (room .0), room .1))
       (λ over. inr (over .0, (within led i (Name section (suc n) opened) not-name e, over .1)))
-      (either led (i + 1) (inName (byteAt s i)) _ _ (goes led i (Name section (suc n) opened) not-name e))
+      (forks led (i + 1) (inName (byteAt s i)) _ _ (goes led i (Name section (suc n) opened) not-name e))
 
   named-one : (p : ℕ) → letter (byteAt s p) ≡ true → NamedTo s p (p + 1)
   named-one p l = from-more (λ (j : ℕ). inName (byteAt s j) ≡ true) (λ j h g. absurd (omega arith)) (letter-named (byteAt s p) l)
 
   name-ends : (section opened p n : ℕ) → suc n ≤ 12 → letter (byteAt s p) ≡ true → NamedTo s p (p + suc n) → inName (byteAt s (p + suc n)) ≡ false
-      → Past s section opened (p + suc n) → NameFrom s section opened p
+      → ItemEnds s section opened (p + suc n) → NameFrom s section opened p
   name-ends section opened p n g l so ends past = (
     p + suc n,
     omega arith,
@@ -84,26 +84,26 @@ module _ {s : List ℕ} (led : LeadsToEnd s) where
   -- ---- lists of names
 
   -- a line ends behind an item that no sign follows, where no bracket is open
-  pub line-ends : (section q : ℕ) → Past s section 0 q → joining section (byteAt s q) ≡ false
+  pub line-ends : (section q : ℕ) → ItemEnds s section 0 q → joining section (byteAt s q) ≡ false
       → (byteAt s q ≡ lineEnd) × (stateAt s (q + 1) ≡ Begin section)
   line-ends section q past j =
       let b = byteAt s q in
       ⊎-elim
       (λ wrong. absurd (alive led (q + 1) (wrong .1)))
       (λ over. let here = must led (q + 1) (eqb b lineEnd) _ (over .1) in (eqb-true b lineEnd (here .0), here .1))
-      (either led (q + 1) (eqb b bracketClose) _ _ (past .1 ∙ passed (joining section b) _ _ j))
+      (forks led (q + 1) (eqb b bracketClose) _ _ (past .1 ∙ cond-fails (joining section b) _ _ j))
 
   -- names joined by the sign of a section without brackets
   module _ (section sign : ℕ) (flat : eqb section 2 ≡ false) (joins : (b : ℕ) → joining section b ≡ eqb b sign) where
     no-bracket : (p : ℕ) (x : State) → stateAt s (p + 1) ≡ cond (eqb (byteAt s p) bracketOpen) (cond (eqb section 2) x Wrong) Wrong → ⊥
-    no-bracket p x e = alive led (p + 1) (must led (p + 1) (eqb (byteAt s p) bracketOpen) _ e .1 ∙ passed (eqb section 2) _ _ flat)
+    no-bracket p x e = alive led (p + 1) (must led (p + 1) (eqb (byteAt s p) bracketOpen) _ e .1 ∙ cond-fails (eqb section 2) _ _ flat)
 
     first-name : (p : ℕ) → stateAt s p ≡ Name section 0 0 → NameFrom s section 0 p
     first-name p e =
         ⊎-elim
         (λ on. read-name section 0 p (on .0) (on .1))
         (λ over. absurd (no-bracket p _ (over .1)))
-        (either led (p + 1) (letter (byteAt s p)) _ _ (goes led p (Name section 0 0) not-name e))
+        (forks led (p + 1) (letter (byteAt s p)) _ _ (goes led p (Name section 0 0) not-name e))
 
     names-more : (p : ℕ) (here : NameFrom s section 0 p) → joining section (byteAt s (here .0)) ≡ true
         → ValueFrom s section (Names s sign) (here .0 + 1) → ValueFrom s section (Names s sign) p
@@ -131,4 +131,4 @@ module _ {s : List ℕ} (led : LeadsToEnd s) where
         ⊎-elim
         (λ on. names-more p here (on .0) (read-names left (q + 1) (omega arith) (on .1)))
         (λ over. names-last p here (over .0))
-        (either led (q + 1) (joining section (byteAt s q)) _ _ (here .3 .1))
+        (forks led (q + 1) (joining section (byteAt s q)) _ _ (here .3 .1))

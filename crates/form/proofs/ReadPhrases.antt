@@ -34,17 +34,17 @@ use Rattle.rules.specs.Phrases.{
 use Rattle.form.specs.declared.machine.State.the-variants.{Name, Closed, Wrong}
 use Rattle.form.specs.Machine.{joining, stateAt}
 use Rattle.form.proofs.Signs.{joins-need, joins-no-need}
-use Rattle.form.proofs.Runs.{chosen, passed}
-use Rattle.form.proofs.Living.{LeadsToEnd, decided, not-name, not-closed, alive, within, goes, must, either}
-use Rattle.form.proofs.ReadNames.{Past, ValueFrom, past-from, read-name, line-ends}
+use Rattle.form.proofs.Runs.{cond-holds, cond-fails}
+use Rattle.form.proofs.Living.{LeadsToEnd, decided, not-name, not-closed, alive, within, goes, must, forks}
+use Rattle.form.proofs.ReadNames.{ItemEnds, ValueFrom, item-ends, read-name, line-ends}
 
 -- a phrase of this kind from place p on; Ends says what is known of the byte behind it
 abbrev PhraseFrom : List ℕ → (ℕ → Type 0) → Kind → ℕ → ℕ → Type 0
-PhraseFrom s Ends kind opened p = (q : ℕ) × (v : Formula) × (p < q) × Stands s kind (8 - opened) p q v × Ends (byteAt s q) × (Past s 2 opened q)
+PhraseFrom s Ends kind opened p = (q : ℕ) × (v : Formula) × (p < q) × Stands s kind (8 - opened) p q v × Ends (byteAt s q) × (ItemEnds s 2 opened q)
 
 -- such a phrase can be read wherever an item must come and fewer than n bytes are left
-abbrev Reads : List ℕ → (ℕ → Type 0) → Kind → ℕ → Type 0
-Reads s Ends kind n = (p opened : ℕ) → length s < p + n → stateAt s p ≡ Name 2 0 opened → PhraseFrom s Ends kind opened p
+abbrev CanRead : List ℕ → (ℕ → Type 0) → Kind → ℕ → Type 0
+CanRead s Ends kind n = (p opened : ℕ) → length s < p + n → stateAt s p ≡ Name 2 0 opened → PhraseFrom s Ends kind opened p
 
 -- what is known of the byte behind an item, an and-list, an or-list
 abbrev EndsItem : ℕ → Type 0
@@ -60,17 +60,17 @@ module _ {s : List ℕ} (led : LeadsToEnd s) where
   -- ---- lists
 
   -- a sign between the operands of a list
-  sign-state : (j : Join) (opened p : ℕ) → Past s 2 opened p → byteAt s p ≡ signOf j → stateAt s (p + 1) ≡ Name 2 0 opened
-  sign-state j opened p past e = past .1 ∙ chosen (joining 2 (byteAt s p)) _ _ (ap (joining 2) e ∙ joins-need j)
+  sign-state : (j : Join) (opened p : ℕ) → ItemEnds s 2 opened p → byteAt s p ≡ signOf j → stateAt s (p + 1) ≡ Name 2 0 opened
+  sign-state j opened p past e = past .1 ∙ cond-holds (joining 2 (byteAt s p)) _ _ (ap (joining 2) e ∙ joins-need j)
 
-  module _ (j : Join) (Ends : ℕ → Type 0) (n : ℕ) (read : Reads s Ends (operand j) n) where
+  module _ (j : Join) (Ends : ℕ → Type 0) (n : ℕ) (read : CanRead s Ends (operand j) n) where
     -- what is known of the byte behind the list
     abbrev EndsList : ℕ → Type 0
     EndsList b = Ends b × (b ≡ signOf j → ⊥)
 
     -- what follows the operands that are read, which say u
     abbrev RestFrom : ℕ → Formula → ℕ → Type 0
-    RestFrom opened u r = (q : ℕ) × (w : Formula) × (r ≤ q) × Stands s (rest j u) (8 - opened) r q w × EndsList (byteAt s q) × (Past s 2 opened q)
+    RestFrom opened u r = (q : ℕ) × (w : Formula) × (r ≤ q) × Stands s (rest j u) (8 - opened) r q w × EndsList (byteAt s q) × (ItemEnds s 2 opened q)
 
     rest-next : (opened r : ℕ) (u : Formula) → byteAt s r ≡ signOf j → (one : PhraseFrom s Ends (operand j) opened (r + 1))
         → RestFrom opened (joinOf j u (one .1)) (one .0) → RestFrom opened u r
@@ -79,10 +79,10 @@ module _ {s : List ℕ} (led : LeadsToEnd s) where
         let further = more .2 in
         (more .0, more .1, omega arith, next signed (one .3) (more .3), more .4, more .5)
 
-    rest-last : (opened r : ℕ) (u : Formula) → (byteAt s r ≡ signOf j → ⊥) → Ends (byteAt s r) → Past s 2 opened r → RestFrom opened u r
+    rest-last : (opened r : ℕ) (u : Formula) → (byteAt s r ≡ signOf j → ⊥) → Ends (byteAt s r) → ItemEnds s 2 opened r → RestFrom opened u r
     rest-last opened r u unsigned ends past = (r, u, omega arith, last unsigned, (ends, unsigned), past)
 
-    read-rest : (left r opened : ℕ) (u : Formula) → length s < r + n → length s < r + left → Ends (byteAt s r) → Past s 2 opened r
+    read-rest : (left r opened : ℕ) (u : Formula) → length s < r + n → length s < r + left → Ends (byteAt s r) → ItemEnds s 2 opened r
         → RestFrom opened u r
     read-rest zero r opened u h g ends past = let inText = past .0 in absurd (omega arith)
     read-rest (suc left) r opened u h g ends past =
@@ -96,7 +96,7 @@ module _ {s : List ℕ} (led : LeadsToEnd s) where
         (λ over. rest-last opened r u (eqb-false b (signOf j) over) ends past)
         (decided (eqb b (signOf j)))
 
-    read-list : Reads s EndsList (list j) n
+    read-list : CanRead s EndsList (list j) n
     read-list p opened h e =
         let one = read p opened h e in
         let forward = one .2 in
@@ -107,16 +107,16 @@ module _ {s : List ℕ} (led : LeadsToEnd s) where
   -- ---- items
 
   -- a bracket closes behind an or-list in brackets
-  bracket-closes : (opened q : ℕ) → EndsOrs (byteAt s q) → Past s 2 (suc opened) q
+  bracket-closes : (opened q : ℕ) → EndsOrs (byteAt s q) → ItemEnds s 2 (suc opened) q
       → (byteAt s q ≡ bracketClose) × (stateAt s (q + 1) ≡ Closed opened)
   bracket-closes opened q ends past =
       let b = byteAt s q in
       ⊎-elim
       (λ here. (eqb-true b bracketClose (here .0), here .1))
       (λ over. absurd (alive led (q + 1) (must led (q + 1) (eqb b lineEnd) Wrong (over .1) .1)))
-      (either led (q + 1) (eqb b bracketClose) _ _ (past .1 ∙ passed (joining 2 b) _ _ (joins-no-need b (ends .0 .1) (ends .1))))
+      (forks led (q + 1) (eqb b bracketClose) _ _ (past .1 ∙ cond-fails (joining 2 b) _ _ (joins-no-need b (ends .0 .1) (ends .1))))
 
-  read-bracket : (n p opened : ℕ) → Reads s EndsOrs (list ors) n → length s < p + suc n → byteAt s p ≡ bracketOpen → opened < 8
+  read-bracket : (n p opened : ℕ) → CanRead s EndsOrs (list ors) n → length s < p + suc n → byteAt s p ≡ bracketOpen → opened < 8
       → stateAt s (p + 1) ≡ Name 2 0 (suc opened) → PhraseFrom s EndsItem item opened p
   read-bracket n p opened read h signed room e =
       let inner = read (p + 1) (suc opened) (omega arith) e in
@@ -129,7 +129,7 @@ module _ {s : List ℕ} (led : LeadsToEnd s) where
         omega arith,
         subst (λ (d : ℕ). Stands s item d p place (inner .1)) deep (bracketed signed (inner .3) (closed .0)),
         tt,
-        past-from led 2 opened place (Closed opened) not-closed (closed .1) refl,
+        item-ends led 2 opened place (Closed opened) not-closed (closed .1) refl,
       )
 
   read-named : (p opened : ℕ) → letter (byteAt s p) ≡ true → stateAt s (p + 1) ≡ Name 2 1 opened → PhraseFrom s EndsItem item opened p
@@ -137,7 +137,7 @@ module _ {s : List ℕ} (led : LeadsToEnd s) where
       let here = read-name led 2 opened p l e in
       (here .0, named (spot s p (here .0)), here .1, name (here .2), tt, here .3)
 
-  read-item : (n : ℕ) → Reads s EndsOrs (list ors) n → Reads s EndsItem item (suc n)
+  read-item : (n : ℕ) → CanRead s EndsOrs (list ors) n → CanRead s EndsItem item (suc n)
   read-item n read p opened h e =
       let b = byteAt s p in
       ⊎-elim
@@ -146,12 +146,12 @@ module _ {s : List ℕ} (led : LeadsToEnd s) where
       let bracket = must led (p + 1) (eqb b bracketOpen) _ (over .1) in
       let room = must led (p + 1) (ltb opened 8) _ (bracket .1) in
       read-bracket n p opened read h (eqb-true b bracketOpen (bracket .0)) (ltb-true opened 8 (room .0)) (room .1))
-      (either led (p + 1) (letter b) _ _ (goes led p (Name 2 0 opened) not-name e))
+      (forks led (p + 1) (letter b) _ _ (goes led p (Name 2 0 opened) not-name e))
 
-  read-ors : (n : ℕ) → Reads s EndsItem item n → Reads s EndsOrs (list ors) n
+  read-ors : (n : ℕ) → CanRead s EndsItem item n → CanRead s EndsOrs (list ors) n
   read-ors n read = read-list ors EndsAnds n (read-list ands EndsItem n read)
 
-  read-items : (n : ℕ) → Reads s EndsItem item n
+  read-items : (n : ℕ) → CanRead s EndsItem item n
   read-items zero p opened h e = let inText = within led p (Name 2 0 opened) not-name e in absurd (omega arith)
   read-items (suc n) p opened h e = read-item n (read-ors n (read-items n)) p opened h e
 

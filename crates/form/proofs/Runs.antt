@@ -18,13 +18,13 @@ pub wrong-done : Wrong ≡ Done → ⊥
 wrong-done e = let z : _≡_ {A = ℕ} 0 1 = cc in omega arith
 
 -- a state chosen by a test that holds, or that fails
-pub chosen : (test : Bool) (x y : State) → test ≡ true → cond test x y ≡ x
-chosen true x y e = refl
-chosen false x y e = absurd (false≢true e)
+pub cond-holds : (test : Bool) (x y : State) → test ≡ true → cond test x y ≡ x
+cond-holds true x y e = refl
+cond-holds false x y e = absurd (false≢true e)
 
-pub passed : (test : Bool) (x y : State) → test ≡ false → cond test x y ≡ y
-passed true x y e = absurd (true≢false e)
-passed false x y e = refl
+pub cond-fails : (test : Bool) (x y : State) → test ≡ false → cond test x y ≡ y
+cond-fails true x y e = absurd (true≢false e)
+cond-fails false x y e = refl
 
 -- ---- runs
 

@@ -21,7 +21,7 @@ use Rattle.form.specs.declared.machine.State.the-variants.{Key, Begin, N
 use Rattle.form.specs.Machine.{keyOf, valueOf, joining, behindItem, step, begin, run, stateAt}
 use Rattle.form.proofs.Signs.{digit-not}
 use Rattle.form.proofs.Keys.{forbid-begins, key-byte, along-on, along-behind}
-use Rattle.form.proofs.Runs.{chosen, passed, state-next, state-by, state-all}
+use Rattle.form.proofs.Runs.{cond-holds, cond-fails, state-next, state-by, state-all}
 
 module _ (s : List ℕ) where
   state-from : (p : ℕ) (state : State) → p < length s → stateAt s p ≡ state → stateAt s (p + 1) ≡ step state (byteAt s p)
@@ -59,7 +59,7 @@ module _ (s : List ℕ) where
   name-goes section opened p q here e zero h =
       let b = byteAt s p in
       state-from p (Name section 0 opened) (named-inside s p (letter-named b (here .begins))) e
-      ∙ chosen (letter b) (Name section 1 opened) _ (here .begins)
+      ∙ cond-holds (letter b) (Name section 1 opened) _ (here .begins)
   name-goes section opened p q here e (suc n) h =
       let i = p + suc n in
       let b = byteAt s i in
@@ -67,8 +67,8 @@ module _ (s : List ℕ) where
       let named : inName b ≡ true = here .run .goesOn i (omega arith) (omega arith) in
       let on : stateAt s (i + 1) ≡ Name section (suc (suc n)) opened =
       state-from i (Name section (suc n) opened) (named-inside s i named) (name-goes section opened p q here e n (omega arith))
-      ∙ chosen (inName b) _ (behindItem section opened b) named
-      ∙ chosen (ltb (suc n) 12) (Name section (suc (suc n)) opened) Wrong (lt-ltb (suc n) 12 (omega arith)) in
+      ∙ cond-holds (inName b) _ (behindItem section opened b) named
+      ∙ cond-holds (ltb (suc n) 12) (Name section (suc (suc n)) opened) Wrong (lt-ltb (suc n) 12 (omega arith)) in
       let place : i + 1 ≡ p + suc (suc n) = omega arith in
       subst (λ (q : ℕ). stateAt s q ≡ Name section (suc (suc n)) opened) place on
 
@@ -79,13 +79,13 @@ module _ (s : List ℕ) where
       let place : p + suc n ≡ q = omega arith in
       let at : stateAt s q ≡ Name section (suc n) opened =
       subst (λ (i : ℕ). stateAt s i ≡ Name section (suc n) opened) place (name-goes section opened p q here e n (omega arith)) in
-      state-from q (Name section (suc n) opened) h at ∙ passed (inName (byteAt s q)) _ _ (here .run .ends)
+      state-from q (Name section (suc n) opened) h at ∙ cond-fails (inName (byteAt s q)) _ _ (here .run .ends)
 
   names-walk : (section sign : ℕ) → joining section sign ≡ true → 0 < sign → {p q : ℕ} {spots : List Spot} → Names s sign p q spots
       → stateAt s p ≡ Name section 0 0 → Behind section 0 q
   names-walk section sign j g (last-name {p} {q} here no-more) e = name-walk section 0 p q here e
   names-walk section sign j g (more-names {p} {r} here signed more) e =
-      names-walk section sign j g more (behind-by section 0 r sign (name-walk section 0 p r here e) signed g ∙ chosen (joining section sign) _ _ j)
+      names-walk section sign j g more (behind-by section 0 r sign (name-walk section 0 p r here e) signed g ∙ cond-holds (joining section sign) _ _ j)
 
   -- ---- phrases
 
@@ -114,7 +114,7 @@ module _ (s : List ℕ) where
   stands-walk opened h (bracketed {deep} {p} {q} open-said inner close-said) e =
       let in-bracket : stateAt s (p + 1) ≡ Name 2 0 (suc opened) =
       state-by s p bracketOpen (Name 2 0 opened) e open-said (lit< tt)
-      ∙ chosen (ltb opened 8) (Name 2 0 (suc opened)) Wrong (lt-ltb opened 8 (omega arith)) in
+      ∙ cond-holds (ltb opened 8) (Name 2 0 (suc opened)) Wrong (lt-ltb opened 8 (omega arith)) in
       let behind = stands-walk (suc opened) (omega arith) inner in-bracket in
       λ g. state-from (q + 1) (Closed opened) g (behind-by 2 (suc opened) q bracketClose behind close-said (lit< tt))
 
@@ -167,8 +167,8 @@ module _ (s : List ℕ) where
   digit-walk p digits d e =
       let b = byteAt s p in
       state-from p (Number digits) (inside s p (digit-not b 0 refl d)) e
-      ∙ passed (eqb b 10) (cond (eqb digits 0) Wrong Done) _ (ne-eqb b 10 (digit-not b 10 refl d))
-      ∙ chosen (digit b) _ Wrong d
+      ∙ cond-fails (eqb b 10) (cond (eqb digits 0) Wrong Done) _ (ne-eqb b 10 (digit-not b 10 refl d))
+      ∙ cond-holds (digit b) _ Wrong d
 
   number-walk : {p q v : ℕ} → NumberAt s p q v → stateAt s p ≡ Number 0 → byteAt s q ≡ lineEnd → stateAt s (q + 1) ≡ Done
   number-walk (one-digit {p} d) e ended = go (eqb (byteAt s p) 48) (digit-walk p 0 d e)
@@ -177,7 +177,7 @@ module _ (s : List ℕ) where
       go true f = state-by s (p + 1) 10 (Number 1) f ended (lit< tt)
       go false f = state-by s (p + 1) 10 (Number 2) f ended (lit< tt)
   number-walk (two-digits {p} d n d′) e ended =
-      let one : stateAt s (p + 1) ≡ Number 2 = digit-walk p 0 d e ∙ passed (eqb (byteAt s p) 48) (Number 1) (Number 2) (ne-eqb (byteAt s p) 48 n) in
+      let one : stateAt s (p + 1) ≡ Number 2 = digit-walk p 0 d e ∙ cond-fails (eqb (byteAt s p) 48) (Number 1) (Number 2) (ne-eqb (byteAt s p) 48 n) in
       let two : stateAt s (p + 1 + 1) ≡ Number 3 = digit-walk (p + 1) 2 d′ one in
       let place : p + 1 + 1 ≡ p + 2 = omega arith in
       state-by s (p + 2) 10 (Number 3) (subst (λ (q : ℕ). stateAt s q ≡ Number 3) place two) ended (lit< tt)

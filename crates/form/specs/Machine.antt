@@ -96,14 +96,14 @@ step Done b = Wrong
 step Wrong b = Wrong
 
 -- of a key, fewer bytes stand than it has
-abbrev pub Sound : State → Type 0
-Sound (Key section k) = k < length (keyOf section)
-Sound (Begin section) = Unit {0}
-Sound (Name section count opened) = Unit {0}
-Sound (Closed opened) = Unit {0}
-Sound (Number digits) = Unit {0}
-Sound Done = Unit {0}
-Sound Wrong = Unit {0}
+abbrev pub InsideKey : State → Type 0
+InsideKey (Key section k) = k < length (keyOf section)
+InsideKey (Begin section) = Unit {0}
+InsideKey (Name section count opened) = Unit {0}
+InsideKey (Closed opened) = Unit {0}
+InsideKey (Number digits) = Unit {0}
+InsideKey Done = Unit {0}
+InsideKey Wrong = Unit {0}
 
 -- the state where the text begins: columns=
 abbrev pub begin : State

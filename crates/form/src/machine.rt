@@ -7,7 +7,7 @@ ghost use mathlib.Core.Path.{_≡_};
 ghost use Prim.Native.Nat.{_<_};
 ghost use lib.ListN.{length};
 ghost use Rattle.form.specs.Machine.{keyOf, valueOf, along as alongKey, inKey, atLine, joining, atItem, behindItem, nameOn, inNumber};
-ghost use Rattle.form.specs.Machine.{step as stepped, Sound};
+ghost use Rattle.form.specs.Machine.{step as stepped, InsideKey};
 
 // The sections of a text, each with its key.
 pub const COLUMNS: usize = 0;
@@ -36,7 +36,7 @@ pub enum State {
 
 // The state behind one more byte.
 pub fn step(state: State, byte: u8) -> State
-    requires { ⌜ Sound state ⌝ }
+    requires { ⌜ InsideKey state ⌝ }
     ensures { λ r. ⌜ r ≡ stepped state byte ⌝ }
 {
     match state {

@@ -6,8 +6,9 @@ use native.Mathlib.Omega.{arith}
 use lib.ListN.{length, length-append}
 use Rattle.rules.specs.Marks.{andMark, orMark}
 use Rattle.rules.specs.Names.{Spot}
-use Rattle.rules.specs.Phrases.{Formula, named, andOf, orOf, Join, ors, ands, joinOf, rest, Stands, last, next}
+use Rattle.rules.specs.Phrases.{Formula, Join, ors, ands, joinOf, rest, Stands, last, next}
 use Rattle.rules.specs.Sheets.{marksIn}
+use Rattle.rules.proofs.MarkedNeeds.{length-marks}
 use Rattle.phrases.specs.Readers.{marksLong}
 
 -- the mark of a join
@@ -34,11 +35,8 @@ long-join columns j u v =
     )
 
 -- a formula has a mark
-pub some-mark : (v : Formula) → 0 < marksLong v
-unfolding marksIn
-some-mark (named x) = omega arith
-some-mark (andOf u v) = omega (arith, long-join [] ands u v)
-some-mark (orOf u v) = omega (arith, long-join [] ors u v)
+pub marks-some : (v : Formula) → 0 < marksLong v
+marks-some v = omega (arith, length-marks [] v)
 
 -- the operands that are read have no more marks than the whole list
 pub rest-long : {s : List ℕ} {j : Join} {deep p q : ℕ} {u w : Formula} → Stands s (rest j u) deep p q w → marksLong u ≤ marksLong w

@@ -14,12 +14,12 @@ use Rattle.rules.proofs.Phrases.{name-or-bracket}
 use Rattle.naming.specs.Words.{Words, columnsFrom}
 use Rattle.phrases.specs.declared.Read.{Read}
 use Rattle.phrases.specs.Readers.{Readable, Marked}
-use Rattle.phrases.proofs.Counts.{some-mark}
+use Rattle.phrases.proofs.Counts.{marks-some}
 use Rattle.phrases.proofs.Turns.{read, take-set}
 
 -- there is room for an item's first mark
 pub item-room : {s : List ℕ} {p n room : ℕ} → Readable s item p n room → n < room
-item-room a = omega (arith, a .fits, some-mark (a .formula))
+item-room a = omega (arith, a .fits, marks-some (a .formula))
 
 -- an opening bracket lies within the text
 pub bracket-within : (s : List ℕ) (p : ℕ) → byteAt s p ≡ bracketOpen → p < length s

@@ -47,7 +47,7 @@ module _ {s : List ℕ} {j : Join} {deep : ℕ} where
 
 -- at the head of the loop that reads a list: its first operand ends where the loop began, the operands so far say `said`, and whatever marks stood
 -- before the list, behind them stand the marks of `said` now if those of the first operand stood there when the loop began
-pub record Turn (s : List ℕ) (j : Join) (at marked place₀ count₀ : ℕ) (marks₀ : List ℕ) (place count : ℕ) (marks : List ℕ) : Type 0 where
+pub record ListSoFar (s : List ℕ) (j : Join) (at marked place₀ count₀ : ℕ) (marks₀ : List ℕ) (place count : ℕ) (marks : List ℕ) : Type 0 where
   pub deep : ℕ
   pub to : ℕ
   pub begun : Formula
@@ -63,10 +63,10 @@ pub record Turn (s : List ℕ) (j : Join) (at marked place₀ count₀ : ℕ) (m
   pub wrote : (old : List ℕ) → Wrote s marked place₀ begun old (read place₀ count₀) marks₀ → Wrote s marked place said old (read place count) marks
 
 -- one operand more and the join's mark
-joined : {s : List ℕ} {n p c q : ℕ} {u v : Formula} {old marks new : List ℕ} {r : Read} (j : Join) → Wrote s n p u old (read p c) marks
+wrote-joined : {s : List ℕ} {n p c q : ℕ} {u v : Formula} {old marks new : List ℕ} {r : Read} (j : Join) → Wrote s n p u old (read p c) marks
     → Wrote s c q v marks r new → r .marked < length new
     → Wrote s n (r .at) (joinOf j u v) old (read (r .at) (r .marked + 1)) (set new (r .marked) (markOf j))
-joined {s} {n} {p} {c} {q} {u} {v} {old} {marks} {new} {r} j a b h = record {
+wrote-joined {s} {n} {p} {c} {q} {u} {v} {old} {marks} {new} {r} j a b h = record {
   at = refl;
   marked = omega (arith, a .marked, b .marked, long-join [] j u v);
   marks = λ to columns words few.
@@ -86,7 +86,7 @@ module _ {s : List ℕ} {j : Join} where
 
   -- the loop begins behind the first operand
   pub first-turn : {p n : ℕ} {old new : List ℕ} {r : Read} → Readable s (list j) p n (length old) → Marked s (operand j) p n old r new
-      → length new ≡ length old → Turn s j p n (r .at) (r .marked) new (r .at) (r .marked) new
+      → length new ≡ length old → ListSoFar s j p n (r .at) (r .marked) new (r .at) (r .marked) new
   first-turn a m l =
       let b = list-parts (a .stands) in
       let w = m (a .deep) (b .0) (b .1) (b .2) in
@@ -106,7 +106,7 @@ module _ {s : List ℕ} {j : Join} where
         wrote = λ old x. x;
       }
 
-  module _ {at marked place₀ count₀ place count : ℕ} {marks₀ marks : List ℕ} (t : Turn s j at marked place₀ count₀ marks₀ place count marks) where
+  module _ {at marked place₀ count₀ place count : ℕ} {marks₀ marks : List ℕ} (t : ListSoFar s j at marked place₀ count₀ marks₀ place count marks) where
     -- behind the join's sign another operand stands, with room for its marks
     pub turn-asks : byteAt s place ≡ signOf j → Readable s (operand j) (place + 1) count (length marks)
     turn-asks e =
@@ -131,7 +131,7 @@ module _ {s : List ℕ} {j : Join} where
           )
 
       -- with the join's mark the loop goes on behind it
-      pub turn-again : Turn s j at marked place₀ count₀ marks₀ (r .at) (r .marked + 1) (set new (r .marked) (markOf j))
+      pub turn-again : ListSoFar s j at marked place₀ count₀ marks₀ (r .at) (r .marked + 1) (set new (r .marked) (markOf j))
       turn-again =
           let b = another (t .left) e in
           let w = m (t .deep) (b .0) (b .1) (b .2) in
@@ -148,7 +148,7 @@ module _ {s : List ℕ} {j : Join} where
             counted = omega (arith, t .counted, w .marked, long-join [] j (t .said) (b .1));
             fits = t .fits;
             long = length-set new (r .marked) (markOf j) ∙ l ∙ t .long;
-            wrote = λ old x. joined j (t .wrote old x) w (turn-room .0);
+            wrote = λ old x. wrote-joined j (t .wrote old x) w (turn-room .0);
           }
 
     -- where no sign of the join stands the list is read

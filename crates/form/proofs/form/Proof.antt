@@ -12,7 +12,7 @@ use borrow.Author.Needs.{needs}
 use Rattle.form.specs.declared.machine.State.{State}
 use Rattle.form.specs.declared.machine.State.the-variants.{Done, Wrong}
 use Rattle.form.proofs.machine.State.{the-type}
-use Rattle.form.proofs.Places.{Followed, followed-begin, followed-sound, followed-on, followed-wrong, followed-whole, followed-short}
+use Rattle.form.proofs.Places.{Followed, followed-begin, followed-inside, followed-on, followed-wrong, followed-whole, followed-short}
 use Rattle.form.proofs.form.Statement.{statement}
 use Rattle.form.proofs.form.Tie as tie
 
@@ -34,7 +34,7 @@ shared-slice-read-step : tie.Need-shared-slice-read-step Inv-loop μ-loop
 shared-slice-read-step c = search needs
 
 step-requires : tie.Need-step-requires Inv-loop μ-loop
-step-requires c κs = followed-sound _ (c .before .before .loop .inv)
+step-requires c κs = followed-inside _ (c .before .before .loop .inv)
 
 enum-told : tie.Need-enum-told Inv-loop μ-loop
 enum-told c = search needs

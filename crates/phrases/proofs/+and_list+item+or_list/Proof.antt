@@ -6,7 +6,7 @@ use lib.ListN.{length}
 use borrow.Author.Needs.{needs}
 use Rattle.rules.specs.Signs.{byteAt, ampersand, bar, bracketOpen}
 use Rattle.rules.specs.Phrases.{ors, ands}
-use Rattle.phrases.proofs.Turns.{sign-within, Turn, first-asks, first-turn, turn-asks, turn-room, turn-again, turns-done}
+use Rattle.phrases.proofs.Turns.{sign-within, ListSoFar, first-asks, first-turn, turn-asks, turn-room, turn-again, turns-done}
 use Rattle.phrases.proofs.Items.{item-room, bracket-within, bracket-asks, bracket-ends, bracket-done, name-done}
 use borrow.Fn.Kinds.{In}
 use borrow.Fn.PlainCycle.{Measures, is, falls, and}
@@ -63,7 +63,7 @@ abbrev or-list-claims : ℕ → or-list-lts.Claims
 or-list-claims t = (and-list-below t, and-list.Post, byte-reads.Asked, byte-reads.Learnt)
 
 abbrev and-list-Inv-loop : and-list-lts.InvT-loop
-and-list-Inv-loop text at marks₀ marked place₀ count₀ marks place count = Turn text ands at marked place₀ count₀ marks₀ place count marks
+and-list-Inv-loop text at marks₀ marked place₀ count₀ marks place count = ListSoFar text ands at marked place₀ count₀ marks₀ place count marks
 
 abbrev and-list-μ-loop : and-list-lts.MeasureT-loop
 and-list-μ-loop text at marks₀ marked place₀ count₀ marks place count = length text - place
@@ -186,7 +186,7 @@ item-returns-2 t c =
     name-done (λ h. c .before .before .if1 .left (c .before .before .before .byte .ensures ∙ h)) (item-room (c .before .before .before .before .before .before .pre .1)) (c .before .column-in .ensures .1) (c .name-end .ensures)
 
 abbrev or-list-Inv-loop : or-list-lts.InvT-loop
-or-list-Inv-loop text at marks₀ marked place₀ count₀ marks place count = Turn text ors at marked place₀ count₀ marks₀ place count marks
+or-list-Inv-loop text at marks₀ marked place₀ count₀ marks place count = ListSoFar text ors at marked place₀ count₀ marks₀ place count marks
 
 abbrev or-list-μ-loop : or-list-lts.MeasureT-loop
 or-list-μ-loop text at marks₀ marked place₀ count₀ marks place count = length text - place

@@ -7,7 +7,7 @@ use borrow.Author.Needs.{needs}
 use borrow.Author.Tests.{lt-ltb, le-ltb, not-true, not-false}
 use Rattle.form.specs.declared.machine.State.the-variants.{Name, Wrong}
 use Rattle.form.specs.Machine.{behindItem, nameOn}
-use Rattle.form.proofs.Branches.{name-none, name-some}
+use Rattle.form.proofs.Branches.{name-on-none, name-on-some}
 use Rattle.form.proofs.machine.name_on.Statement.{statement}
 use Rattle.form.proofs.machine.name_on.Tie as tie
 use Rattle.form.proofs.machine.name_on.Reads as reads
@@ -27,13 +27,13 @@ claims = (
 )
 
 -- what a byte behind the first bytes of a name leads to
-named : (n : lts.After-in-name claims reads.Pre reads.Post) → let a = n .before .before .args in
+name-came : (n : lts.After-in-name claims reads.Pre reads.Post) → let a = n .before .before .args in
     nameOn (a .section) (a .length) (a .opened) (a .byte)
     ≡ cond (n .in-name .result) (cond (ltb (a .length) 12) (Name (a .section) (a .length + 1) (a .opened)) Wrong)
     (behindItem (a .section) (a .opened) (a .byte))
-named n =
+name-came n =
     let a = n .before .before .args in
-    rw (name-some (a .section) (a .length) (a .opened) (a .byte) (n .before .if1 .left), n .in-name .ensures)
+    rw (name-on-some (a .section) (a .length) (a .opened) (a .byte) (n .before .if1 .left), n .in-name .ensures)
 
 at-item-requires : tie.Need-at-item-requires
 at-item-requires c κs = search needs
@@ -41,7 +41,7 @@ at-item-requires c κs = search needs
 returns : tie.Need-returns
 returns c =
     let a = c .before .before .args in
-    c .at-item .ensures ∙ sym (name-none (a .section) (a .length) (a .opened) (a .byte) (c .before .if1 .taken))
+    c .at-item .ensures ∙ sym (name-on-none (a .section) (a .length) (a .opened) (a .byte) (c .before .if1 .taken))
 
 in-name-requires : tie.Need-in-name-requires
 in-name-requires c κs = search needs
@@ -50,7 +50,7 @@ behind-item-requires : tie.Need-behind-item-requires
 behind-item-requires c κs = search needs
 
 returns-2 : tie.Need-returns-2
-returns-2 c = let n = c .before .before in rw (named n, not-true (n .in-name .result) (c .before .if2 .taken)) (c .behind-item .ensures)
+returns-2 c = let n = c .before .before in rw (name-came n, not-true (n .in-name .result) (c .before .if2 .taken)) (c .behind-item .ensures)
 
 add-t7 : tie.Need-add-t7
 add-t7 c = search needs
@@ -58,12 +58,12 @@ add-t7 c = search needs
 returns-3 : tie.Need-returns-3
 returns-3 c =
     let n = c .before .before in
-    rw (named n, not-false (n .in-name .result) (c .before .if2 .left), lt-ltb (n .before .before .args .length) 12 (c .if3 .taken))
+    rw (name-came n, not-false (n .in-name .result) (c .before .if2 .left), lt-ltb (n .before .before .args .length) 12 (c .if3 .taken))
 
 returns-4 : tie.Need-returns-4
 returns-4 c =
     let n = c .before .before in
-    rw (named n, not-false (n .in-name .result) (c .before .if2 .left), le-ltb (n .before .before .args .length) 12 (c .if3 .left))
+    rw (name-came n, not-false (n .in-name .result) (c .before .if2 .left), le-ltb (n .before .before .args .length) 12 (c .if3 .left))
 
 pub name-on-spec : {M : Type 1} → statement M
 name-on-spec =

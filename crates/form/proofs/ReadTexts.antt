@@ -17,7 +17,7 @@ use Rattle.form.specs.declared.machine.State.{State}
 use Rattle.form.specs.declared.machine.State.the-variants.{Begin, Name, Done}
 use Rattle.form.specs.Machine.{keyOf, step, run, stateAt}
 use Rattle.form.proofs.Keys.{forbid-begins}
-use Rattle.form.proofs.Runs.{passed, state-next}
+use Rattle.form.proofs.Runs.{cond-fails, state-next}
 use Rattle.form.proofs.Living.{LeadsToEnd, not-line, alive, goes, must}
 use Rattle.form.proofs.ReadNames.{ValueFrom, read-names}
 use Rattle.form.proofs.ReadPhrases.{read-need}
@@ -46,7 +46,7 @@ module _ {s : List ℕ} (led : LeadsToEnd s) where
   read-end-line after p e f n =
       let b = byteAt s p in
       let here = must led (p + 1) (eqb b 101) _
-      (goes led p (Begin after) not-line e ∙ passed (eqb b 102) _ _ (ne-eqb b 102 f) ∙ passed (eqb b 110) _ _ (ne-eqb b 110 n)) in
+      (goes led p (Begin after) not-line e ∙ cond-fails (eqb b 102) _ _ (ne-eqb b 102 f) ∙ cond-fails (eqb b 110) _ _ (ne-eqb b 110 n)) in
       let said = read-line led 3 after p (lit< tt) refl (eqb-true b 101 (here .0)) e in
       (said .0, read-number led (p + 4) (said .1))
 
