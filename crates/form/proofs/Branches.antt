@@ -11,11 +11,11 @@ use borrow.Author.Tests.{ne-eqb}
 use Rattle.rules.specs.Signs.{inName, endKey}
 use Rattle.rules.specs.Names.{mostNameBytes}
 use Rattle.form.specs.declared.machine.State.the-variants.{Begin, Name, Closed, Wrong}
-use Rattle.form.specs.Machine.{keyOf, along, atItem, closing, lineEnding, behindItem, nameOn}
+use Rattle.form.specs.Machine.{columnsSection, forbidSection, needSection, keyOf, along, atItem, closing, lineEnding, behindItem, nameOn}
 
 -- a section that is none of the first three is the end
-pub key-end : (section : ℕ) → (section ≡ 0 → ⊥) → (section ≡ 1 → ⊥) → (section ≡ 2 → ⊥) → keyOf section ≡ endKey
-key-end section c f n = rw (ne-eqb section 0 c, ne-eqb section 1 f, ne-eqb section 2 n)
+pub key-end : (section : ℕ) → (section ≡ columnsSection → ⊥) → (section ≡ forbidSection → ⊥) → (section ≡ needSection → ⊥) → keyOf section ≡ endKey
+key-end section c f n = rw (ne-eqb section columnsSection c, ne-eqb section forbidSection f, ne-eqb section needSection n)
 
 -- a place in a section's key is one in the key that it is
 pub fits-key : (section k : ℕ) {key : List ℕ} → keyOf section ≡ key → k < length (keyOf section) → k < length key

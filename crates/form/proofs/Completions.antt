@@ -10,7 +10,7 @@ use lib.Seq.{drop-cons}
 use Rattle.rules.specs.Signs.{lineEnd, bracketClose}
 use Rattle.form.specs.declared.machine.State.{State}
 use Rattle.form.specs.declared.machine.State.the-variants.{Key, Begin, Name, Closed, Number, Done, Wrong}
-use Rattle.form.specs.Machine.{keyOf, valueOf, step, InsideKey, run}
+use Rattle.form.specs.Machine.{needSection, endSection, noDigit, keyOf, valueOf, step, InsideKey, run}
 use Rattle.form.proofs.Keys.{along-on, along-behind}
 use Rattle.form.proofs.Runs.{run-append}
 
@@ -32,7 +32,7 @@ unfolding run
 complete-line section = (endLine, refl)
 
 complete-closed : (opened : ℕ) → CanEnd (Closed opened)
-complete-closed zero = byte-more lineEnd (Closed zero) (complete-line 2)
+complete-closed zero = byte-more lineEnd (Closed zero) (complete-line needSection)
 complete-closed (suc opened) = byte-more bracketClose (Closed (suc opened)) (complete-closed opened)
 
 complete-named : (section n opened : ℕ) → CanEnd (Name section (suc n) opened)
@@ -49,11 +49,11 @@ complete-number zero = (48 ∷ lineEnd ∷ [], refl)
 complete-number (suc n) = (lineEnd ∷ [], rw (eqb·suc-zero n))
 
 complete-value : (section : ℕ) → CanEnd (valueOf section)
-complete-value section = go (ltb section 3)
+complete-value section = go (ltb section endSection)
   where
-    go : (below : Bool) → CanEnd (cond below (Name section 0 0) (Number 0))
+    go : (below : Bool) → CanEnd (cond below (Name section 0 0) (Number noDigit))
     go true = complete-name section 0 0
-    go false = complete-number 0
+    go false = complete-number noDigit
 
 -- the rest of a key leads behind it
 run-key : (left section k : ℕ) → suc k + left ≡ length (keyOf section) → run (Key section k) (drop k (keyOf section)) ≡ valueOf section

@@ -11,7 +11,7 @@ use Rattle.rules.specs.Phrases.{mostBrackets}
 use Rattle.rules.specs.Names.{mostNameBytes}
 use Rattle.form.specs.declared.machine.State.{State}
 use Rattle.form.specs.declared.machine.State.the-variants.{Key, Begin, Name, Closed, Number, Done, Wrong}
-use Rattle.form.specs.Machine.{keyOf, valueOf, atLine, joining, atItem, closing, lineEnding, behindItem, inNumber, step, InsideKey}
+use Rattle.form.specs.Machine.{needSection, endSection, noDigit, digitZero, otherDigit, twoDigits, keyOf, valueOf, atLine, joining, atItem, closing, lineEnding, behindItem, inNumber, step, InsideKey}
 use Rattle.form.specs.Machine.{begin, run, stateAt}
 
 -- what a test chooses is sound if both are
@@ -20,12 +20,12 @@ inside-cond true x y f g = f refl
 inside-cond false x y f g = g
 
 inside-value : (section : ℕ) → InsideKey (valueOf section)
-inside-value section = inside-cond (ltb section 3) (Name section 0 0) (Number 0) (λ e. tt) tt
+inside-value section = inside-cond (ltb section endSection) (Name section 0 0) (Number noDigit) (λ e. tt) tt
 
 inside-item : (section opened b : ℕ) → InsideKey (atItem section opened b)
 inside-item section opened b =
     inside-cond (letter b) _ _ (λ e. tt)
-    (inside-cond (eqb b bracketOpen) _ _ (λ e. inside-cond (eqb section 2) _ _ (λ e. inside-cond (ltb opened mostBrackets) _ _ (λ e. tt) tt) tt) tt)
+    (inside-cond (eqb b bracketOpen) _ _ (λ e. inside-cond (eqb section needSection) _ _ (λ e. inside-cond (ltb opened mostBrackets) _ _ (λ e. tt) tt) tt) tt)
 
 inside-closing : (opened : ℕ) → InsideKey (closing opened)
 inside-closing zero = tt
@@ -40,18 +40,18 @@ inside-behind section opened b =
     inside-cond (joining section b) _ _ (λ e. tt)
     (inside-cond (eqb b bracketClose) _ _ (λ e. inside-closing opened) (inside-cond (eqb b lineEnd) _ _ (λ e. inside-ending section opened) tt))
 
-inside-digit : (digits b : ℕ) → InsideKey (cond (eqb digits 0) (cond (eqb b 48) (Number 1) (Number 2)) (cond (eqb digits 2) (Number 3) Wrong))
+inside-digit : (digits b : ℕ) → InsideKey (cond (eqb digits noDigit) (cond (eqb b 48) (Number digitZero) (Number otherDigit)) (cond (eqb digits otherDigit) (Number twoDigits) Wrong))
 inside-digit digits b =
-    inside-cond (eqb digits 0) _ _ (λ e. inside-cond (eqb b 48) _ _ (λ e. tt) tt) (inside-cond (eqb digits 2) _ _ (λ e. tt) tt)
+    inside-cond (eqb digits noDigit) _ _ (λ e. inside-cond (eqb b 48) _ _ (λ e. tt) tt) (inside-cond (eqb digits otherDigit) _ _ (λ e. tt) tt)
 
 inside-number : (digits b : ℕ) → InsideKey (inNumber digits b)
 inside-number digits b =
-    inside-cond (eqb b lineEnd) _ _ (λ e. inside-cond (eqb digits 0) _ _ (λ e. tt) tt)
+    inside-cond (eqb b lineEnd) _ _ (λ e. inside-cond (eqb digits noDigit) _ _ (λ e. tt) tt)
     (inside-cond (digit b) _ _ (λ e. inside-digit digits b) tt)
 
 inside-line : (section b : ℕ) → InsideKey (atLine section b)
 inside-line section b =
-    inside-cond (eqb b 102) _ _ (λ e. inside-cond (ltb section 2) _ _ (λ e. lit< tt) tt)
+    inside-cond (eqb b 102) _ _ (λ e. inside-cond (ltb section needSection) _ _ (λ e. lit< tt) tt)
     (inside-cond (eqb b 110) _ _ (λ e. lit< tt) (inside-cond (eqb b 101) _ _ (λ e. lit< tt) tt))
 
 -- every step leads to a sound state
@@ -63,7 +63,7 @@ inside-step (Begin section) b = inside-line section b
 inside-step (Name section zero opened) b = inside-item section opened b
 inside-step (Name section (suc n) opened) b =
     inside-cond (inName b) _ _ (λ e. inside-cond (ltb (suc n) mostNameBytes) _ _ (λ e. tt) tt) (inside-behind section opened b)
-inside-step (Closed opened) b = inside-behind 2 opened b
+inside-step (Closed opened) b = inside-behind needSection opened b
 inside-step (Number digits) b = inside-number digits b
 inside-step Done b = tt
 inside-step Wrong b = tt

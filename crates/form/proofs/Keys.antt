@@ -13,12 +13,12 @@ use Rattle.rules.specs.Signs.{byteAt, Says, columnsKey, forbidKey, needKey, end
 use Rattle.rules.proofs.Lists.{every-in, getD-in}
 use Rattle.rules.proofs.Signs.{says-first}
 use Rattle.form.specs.declared.machine.State.the-variants.{Key, Begin}
-use Rattle.form.specs.Machine.{keyOf, valueOf, along, step}
+use Rattle.form.specs.Machine.{columnsSection, forbidSection, needSection, keyOf, valueOf, along, step}
 
 -- no byte of a key is 0
 all-bytes : (section : ℕ) → every (ltb 0) (keyOf section) ≡ true
 unfolding every
-all-bytes section = go (eqb section 0) (eqb section 1) (eqb section 2)
+all-bytes section = go (eqb section columnsSection) (eqb section forbidSection) (eqb section needSection)
   where
     go : (a b c : Bool) → every (ltb 0) (cond a columnsKey (cond b forbidKey (cond c needKey endKey))) ≡ true
     go true b c = refl
@@ -30,8 +30,8 @@ pub key-byte : (section k : ℕ) → k < length (keyOf section) → 0 < getD (ke
 key-byte section k h = ltb-true 0 (getD (keyOf section) k 0) (every-in (ltb 0) (all-bytes section) (getD-in (keyOf section) k 0 h))
 
 -- a forbid line may begin behind a line of the columns or of a forbid
-pub forbid-begins : (before : ℕ) → before < 2 → step (Begin before) (getD (keyOf 1) 0 0) ≡ Key 1 1
-forbid-begins before h = rw (lt-ltb before 2 h)
+pub forbid-begins : (before : ℕ) → before < needSection → step (Begin before) (getD (keyOf forbidSection) 0 0) ≡ Key forbidSection 1
+forbid-begins before h = rw (lt-ltb before needSection h)
 
 -- the next byte of a key leads on in the key
 pub along-on : (key : List ℕ) (section k : ℕ) → suc k < length key → along key section k (getD key k 0) ≡ Key section (suc k)

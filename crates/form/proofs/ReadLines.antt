@@ -13,7 +13,7 @@ use borrow.Author.Tests.{lt-ltb, le-ltb, eqb-true, eqb-false}
 use Rattle.rules.specs.Signs.{byteAt, Says, says-all, says-byte, digit, lineEnd}
 use Rattle.rules.specs.Texts.{Line, line, Lines, no-line, one-line, Number as NumberAt, one-digit, two-digits}
 use Rattle.form.specs.declared.machine.State.the-variants.{Key, Begin, Name, Number, Done, Wrong}
-use Rattle.form.specs.Machine.{keyOf, valueOf, step, stateAt}
+use Rattle.form.specs.Machine.{noDigit, digitZero, otherDigit, twoDigits, keyOf, valueOf, step, stateAt}
 use Rattle.form.proofs.Keys.{key-said}
 use Rattle.form.proofs.Runs.{cond-holds, cond-fails}
 use Rattle.form.proofs.Living.{LeadsToEnd, decided, not-key, not-line, not-number, alive, within, goes, must, forks}
@@ -107,41 +107,41 @@ module _ {s : List ℕ} (led : LeadsToEnd s) where
 
   -- an LF or a digit follows
   number-step : (p digits : ℕ) → stateAt s p ≡ Number digits
-      → ((byteAt s p ≡ lineEnd) × (stateAt s (p + 1) ≡ cond (eqb digits 0) Wrong Done))
+      → ((byteAt s p ≡ lineEnd) × (stateAt s (p + 1) ≡ cond (eqb digits noDigit) Wrong Done))
       ⊎ ((digit (byteAt s p) ≡ true)
-      × (stateAt s (p + 1) ≡ cond (eqb digits 0) (cond (eqb (byteAt s p) 48) (Number 1) (Number 2)) (cond (eqb digits 2) (Number 3) Wrong)))
+      × (stateAt s (p + 1) ≡ cond (eqb digits noDigit) (cond (eqb (byteAt s p) 48) (Number digitZero) (Number otherDigit)) (cond (eqb digits otherDigit) (Number twoDigits) Wrong)))
   number-step p digits e =
       let b = byteAt s p in
       ⊎-elim (λ ended. inl (eqb-true b lineEnd (ended .0), ended .1)) (λ on. inr (must led (p + 1) (digit b) _ (on .1)))
       (forks led (p + 1) (eqb b lineEnd) _ _ (goes led p (Number digits) not-number e))
 
   -- behind a first digit 0
-  zero-number : (p : ℕ) → digit (byteAt s p) ≡ true → stateAt s (p + 1) ≡ Number 1 → NumberFrom s p
+  zero-number : (p : ℕ) → digit (byteAt s p) ≡ true → stateAt s (p + 1) ≡ Number digitZero → NumberFrom s p
   zero-number p d e =
       ⊎-elim
       (λ ended. (p + 1, _, one-digit d, ended .0, ended .1))
       (λ more. absurd (alive led (p + 1 + 1) (more .1)))
-      (number-step (p + 1) 1 e)
+      (number-step (p + 1) digitZero e)
 
   -- behind two digits
-  two-number : (p : ℕ) → digit (byteAt s p) ≡ true → (byteAt s p ≡ 48 → ⊥) → digit (byteAt s (p + 1)) ≡ true → stateAt s (p + 1 + 1) ≡ Number 3
+  two-number : (p : ℕ) → digit (byteAt s p) ≡ true → (byteAt s p ≡ 48 → ⊥) → digit (byteAt s (p + 1)) ≡ true → stateAt s (p + 1 + 1) ≡ Number twoDigits
       → NumberFrom s p
   two-number p d n d′ e =
       let place : p + 1 + 1 ≡ p + 2 = omega arith in
       ⊎-elim
       (λ ended. (p + 2, _, two-digits d n d′, ended .0, ended .1))
       (λ more. absurd (alive led (p + 2 + 1) (more .1)))
-      (number-step (p + 2) 3 (subst (λ (q : ℕ). stateAt s q ≡ Number 3) place e))
+      (number-step (p + 2) twoDigits (subst (λ (q : ℕ). stateAt s q ≡ Number twoDigits) place e))
 
   -- behind another first digit
-  other-number : (p : ℕ) → digit (byteAt s p) ≡ true → (byteAt s p ≡ 48 → ⊥) → stateAt s (p + 1) ≡ Number 2 → NumberFrom s p
+  other-number : (p : ℕ) → digit (byteAt s p) ≡ true → (byteAt s p ≡ 48 → ⊥) → stateAt s (p + 1) ≡ Number otherDigit → NumberFrom s p
   other-number p d n e =
       ⊎-elim
       (λ ended. (p + 1, _, one-digit d, ended .0, ended .1))
       (λ on. two-number p d n (on .0) (on .1))
-      (number-step (p + 1) 2 e)
+      (number-step (p + 1) otherDigit e)
 
-  first-digit : (p : ℕ) → digit (byteAt s p) ≡ true → stateAt s (p + 1) ≡ cond (eqb (byteAt s p) 48) (Number 1) (Number 2) → NumberFrom s p
+  first-digit : (p : ℕ) → digit (byteAt s p) ≡ true → stateAt s (p + 1) ≡ cond (eqb (byteAt s p) 48) (Number digitZero) (Number otherDigit) → NumberFrom s p
   first-digit p d e =
       let b = byteAt s p in
       ⊎-elim
@@ -150,9 +150,9 @@ module _ {s : List ℕ} (led : LeadsToEnd s) where
       (forks led (p + 1) (eqb b 48) _ _ e)
 
   -- the number can be read behind its key
-  pub read-number : (p : ℕ) → stateAt s p ≡ Number 0 → NumberFrom s p
+  pub read-number : (p : ℕ) → stateAt s p ≡ Number noDigit → NumberFrom s p
   read-number p e =
       ⊎-elim
       (λ ended. absurd (alive led (p + 1) (ended .1)))
       (λ on. first-digit p (on .0) (on .1))
-      (number-step p 0 e)
+      (number-step p noDigit e)

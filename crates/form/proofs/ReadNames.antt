@@ -14,7 +14,7 @@ use Rattle.rules.proofs.Signs.{letter-named}
 use Rattle.naming.proofs.Walks.{from-more}
 use Rattle.form.specs.declared.machine.State.{State}
 use Rattle.form.specs.declared.machine.State.the-variants.{Begin, Name, Done, Wrong}
-use Rattle.form.specs.Machine.{joining, behindItem, step, run, stateAt}
+use Rattle.form.specs.Machine.{needSection, joining, behindItem, step, run, stateAt}
 use Rattle.form.proofs.Runs.{cond-fails}
 use Rattle.form.proofs.Living.{LeadsToEnd, not-name, alive, within, goes, must, forks}
 
@@ -94,9 +94,9 @@ module _ {s : List ℕ} (led : LeadsToEnd s) where
       (forks led (q + 1) (eqb b bracketClose) _ _ (past .1 ∙ cond-fails (joining section b) _ _ j))
 
   -- names joined by the sign of a section without brackets
-  module _ (section sign : ℕ) (flat : eqb section 2 ≡ false) (joins : (b : ℕ) → joining section b ≡ eqb b sign) where
-    no-bracket : (p : ℕ) (x : State) → stateAt s (p + 1) ≡ cond (eqb (byteAt s p) bracketOpen) (cond (eqb section 2) x Wrong) Wrong → ⊥
-    no-bracket p x e = alive led (p + 1) (must led (p + 1) (eqb (byteAt s p) bracketOpen) _ e .1 ∙ cond-fails (eqb section 2) _ _ flat)
+  module _ (section sign : ℕ) (flat : eqb section needSection ≡ false) (joins : (b : ℕ) → joining section b ≡ eqb b sign) where
+    no-bracket : (p : ℕ) (x : State) → stateAt s (p + 1) ≡ cond (eqb (byteAt s p) bracketOpen) (cond (eqb section needSection) x Wrong) Wrong → ⊥
+    no-bracket p x e = alive led (p + 1) (must led (p + 1) (eqb (byteAt s p) bracketOpen) _ e .1 ∙ cond-fails (eqb section needSection) _ _ flat)
 
     first-name : (p : ℕ) → stateAt s p ≡ Name section 0 0 → NameFrom s section 0 p
     first-name p e =

@@ -15,7 +15,7 @@ use Rattle.rules.specs.Texts.{HasForm}
 use Rattle.rules.proofs.Signs.{inside}
 use Rattle.form.specs.declared.machine.State.{State}
 use Rattle.form.specs.declared.machine.State.the-variants.{Begin, Name, Done}
-use Rattle.form.specs.Machine.{keyOf, step, run, stateAt}
+use Rattle.form.specs.Machine.{columnsSection, forbidSection, needSection, endSection, keyOf, step, run, stateAt}
 use Rattle.form.proofs.Keys.{forbid-begins}
 use Rattle.form.proofs.Runs.{cond-fails, state-next}
 use Rattle.form.proofs.Living.{LeadsToEnd, not-line, alive, goes, must}
@@ -25,38 +25,38 @@ use Rattle.form.proofs.ReadLines.{LinesFrom, NumberFrom, read-key, read
 use Rattle.form.proofs.Signs.{joins-columns, joins-forbid}
 
 module _ {s : List ℕ} (led : LeadsToEnd s) where
-  read-columns-line : (p : ℕ) → stateAt s p ≡ Name 0 0 0 → ValueFrom s 0 (Names s comma) p
-  read-columns-line p e = read-names led 0 comma refl joins-columns (length s + 1) p (omega arith) e
+  read-columns-line : (p : ℕ) → stateAt s p ≡ Name columnsSection 0 0 → ValueFrom s columnsSection (Names s comma) p
+  read-columns-line p e = read-names led columnsSection comma refl joins-columns (length s + 1) p (omega arith) e
 
-  read-forbid-line : (p : ℕ) → stateAt s p ≡ Name 1 0 0 → ValueFrom s 1 (Names s plus) p
-  read-forbid-line p e = read-names led 1 plus refl joins-forbid (length s + 1) p (omega arith) e
+  read-forbid-line : (p : ℕ) → stateAt s p ≡ Name forbidSection 0 0 → ValueFrom s forbidSection (Names s plus) p
+  read-forbid-line p e = read-names led forbidSection plus refl joins-forbid (length s + 1) p (omega arith) e
 
-  read-forbids : (p : ℕ) → stateAt s p ≡ Begin 0 → LinesFrom s 1 (Names s plus) 0 p
+  read-forbids : (p : ℕ) → stateAt s p ≡ Begin columnsSection → LinesFrom s forbidSection (Names s plus) columnsSection p
   read-forbids p e =
-      read-lines led 1 (Names s plus) (λ before. before < 2) (lit< tt) refl forbid-begins (lit< tt) read-forbid-line (length s + 1) 0 p (omega arith)
+      read-lines led forbidSection (Names s plus) (λ before. before < needSection) (lit< tt) refl forbid-begins (lit< tt) read-forbid-line (length s + 1) 0 p (omega arith)
       (lit< tt) e
 
-  read-needs : (before p : ℕ) → stateAt s p ≡ Begin before → LinesFrom s 2 (Stands s (list ors) 8) before p
+  read-needs : (before p : ℕ) → stateAt s p ≡ Begin before → LinesFrom s needSection (Stands s (list ors) 8) before p
   read-needs before p e =
-      read-lines led 2 (Stands s (list ors) 8) (λ before. Unit {0}) (lit< tt) refl (λ before h. refl) tt (read-need led) (length s + 1) before p
+      read-lines led needSection (Stands s (list ors) 8) (λ before. Unit {0}) (lit< tt) refl (λ before h. refl) tt (read-need led) (length s + 1) before p
       (omega arith) tt e
 
   read-end-line : (after p : ℕ) → stateAt s p ≡ Begin after → (byteAt s p ≡ 102 → ⊥) → (byteAt s p ≡ 110 → ⊥)
-      → Says s p (keyOf 3) × NumberFrom s (p + 4)
+      → Says s p (keyOf endSection) × NumberFrom s (p + 4)
   read-end-line after p e f n =
       let b = byteAt s p in
       let here = must led (p + 1) (eqb b 101) _
       (goes led p (Begin after) not-line e ∙ cond-fails (eqb b 102) _ _ (ne-eqb b 102 f) ∙ cond-fails (eqb b 110) _ _ (ne-eqb b 110 n)) in
-      let said = read-line led 3 after p (lit< tt) refl (eqb-true b 101 (here .0)) e in
+      let said = read-line led endSection after p (lit< tt) refl (eqb-true b 101 (here .0)) e in
       (said .0, read-number led (p + 4) (said .1))
 
   -- none comes behind a need line
-  no-forbid : (after p : ℕ) → after ≡ 2 → stateAt s p ≡ Begin after → byteAt s p ≡ 102 → ⊥
+  no-forbid : (after p : ℕ) → after ≡ needSection → stateAt s p ≡ Begin after → byteAt s p ≡ 102 → ⊥
   no-forbid after p behind e f =
       alive led (p + 1) (goes led p (Begin after) not-line e ∙ ap (step (Begin after)) f ∙ ap (λ (section : ℕ). step (Begin section) 102) behind)
 
   -- no forbid line follows the needs
-  no-forbid-left : {p : ℕ} (forbids : LinesFrom s 1 (Names s plus) 0 p) (needs : LinesFrom s 2 (Stands s (list ors) 8) (forbids .3) (forbids .0))
+  no-forbid-left : {p : ℕ} (forbids : LinesFrom s forbidSection (Names s plus) columnsSection p) (needs : LinesFrom s needSection (Stands s (list ors) 8) (forbids .3) (forbids .0))
       → byteAt s (needs .0) ≡ 102 → ⊥
   no-forbid-left forbids needs f =
       ⊎-elim
@@ -76,7 +76,7 @@ module _ {s : List ℕ} (led : LeadsToEnd s) where
   pub done-form : HasForm s
   unfolding run
   done-form =
-      let key = read-key led 7 0 0 0 refl refl in
+      let key = read-key led 7 columnsSection 0 0 refl refl in
       let columns = read-columns-line 8 (key .1) in
       let forbids = read-forbids (columns .0 + 1) (columns .5) in
       let needs = read-needs (forbids .3) (forbids .0) (forbids .4) in

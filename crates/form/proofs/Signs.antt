@@ -7,14 +7,14 @@ use lib.Dec.{eqb}
 use borrow.Author.Tests.{eqb-true, ne-eqb}
 use Rattle.rules.specs.Signs.{digit, comma, plus, ampersand, bar}
 use Rattle.rules.specs.Phrases.{Join, ors, ands, signOf}
-use Rattle.form.specs.Machine.{joining}
+use Rattle.form.specs.Machine.{columnsSection, forbidSection, needSection, joining}
 
 -- a digit is none of the bytes that are no digits
 pub digit-not : (b c : ℕ) → digit c ≡ false → digit b ≡ true → b ≡ c → ⊥
 digit-not b c f e z = true≢false (sym e ∙ ap digit z ∙ f)
 
 -- columns are joined by commas alone
-pub joins-columns : (b : ℕ) → joining 0 b ≡ eqb b comma
+pub joins-columns : (b : ℕ) → joining columnsSection b ≡ eqb b comma
 joins-columns b = go (eqb b comma) (eqb b plus) (eqb b ampersand || eqb b bar)
   where
     go : (c p n : Bool) → cond c true (cond p false (cond n false false)) ≡ c
@@ -24,7 +24,7 @@ joins-columns b = go (eqb b comma) (eqb b plus) (eqb b ampersand || eqb b bar)
     go false false false = refl
 
 -- the names of a forbid are joined by plus signs alone
-pub joins-forbid : (b : ℕ) → joining 1 b ≡ eqb b plus
+pub joins-forbid : (b : ℕ) → joining forbidSection b ≡ eqb b plus
 joins-forbid b =
     go (eqb b comma) (eqb b plus) (eqb b ampersand || eqb b bar) (λ c. ne-eqb b plus (λ z. let e = eqb-true b comma c in omega arith))
   where
@@ -35,12 +35,12 @@ joins-forbid b =
     go false false false apart = refl
 
 -- the signs of both kinds of list join the items of a need
-pub joins-need : (j : Join) → joining 2 (signOf j) ≡ true
+pub joins-need : (j : Join) → joining needSection (signOf j) ≡ true
 joins-need ors = refl
 joins-need ands = refl
 
 -- no other byte does
-pub joins-no-need : (b : ℕ) → (b ≡ ampersand → ⊥) → (b ≡ bar → ⊥) → joining 2 b ≡ false
+pub joins-no-need : (b : ℕ) → (b ≡ ampersand → ⊥) → (b ≡ bar → ⊥) → joining needSection b ≡ false
 joins-no-need b f g = go (eqb b comma) (eqb b plus) (eqb b ampersand) (eqb b bar) (ne-eqb b ampersand f) (ne-eqb b bar g)
   where
     go : (c p a o : Bool) → a ≡ false → o ≡ false → cond c false (cond p false (cond (a || o) true false)) ≡ false

@@ -18,7 +18,7 @@ use Rattle.rules.proofs.Signs.{inside, letter-named, named-inside, says-first}
 use Rattle.rules.proofs.Names.{name-some}
 use Rattle.form.specs.declared.machine.State.{State}
 use Rattle.form.specs.declared.machine.State.the-variants.{Key, Begin, Name, Closed, Number, Done, Wrong}
-use Rattle.form.specs.Machine.{keyOf, valueOf, joining, behindItem, step, begin, run, stateAt}
+use Rattle.form.specs.Machine.{columnsSection, forbidSection, needSection, endSection, noDigit, digitZero, otherDigit, twoDigits, keyOf, valueOf, joining, behindItem, step, begin, run, stateAt}
 use Rattle.form.proofs.Signs.{digit-not}
 use Rattle.form.proofs.Keys.{forbid-begins, key-byte, along-on, along-behind}
 use Rattle.form.proofs.Runs.{cond-holds, cond-fails, state-next, state-by, state-all}
@@ -91,32 +91,32 @@ module _ (s : List ℕ) where
 
   -- the state before a phrase of a kind
   abbrev Enters : Kind → ℕ → ℕ → Type 0
-  Enters item opened p = stateAt s p ≡ Name 2 0 opened
-  Enters (list j) opened p = stateAt s p ≡ Name 2 0 opened
-  Enters (rest j v) opened p = Behind 2 opened p
+  Enters item opened p = stateAt s p ≡ Name needSection 0 opened
+  Enters (list j) opened p = stateAt s p ≡ Name needSection 0 opened
+  Enters (rest j v) opened p = Behind needSection opened p
 
-  enters-operand : (j : Join) (opened p : ℕ) → stateAt s p ≡ Name 2 0 opened → Enters (operand j) opened p
+  enters-operand : (j : Join) (opened p : ℕ) → stateAt s p ≡ Name needSection 0 opened → Enters (operand j) opened p
   enters-operand ors opened p e = e
   enters-operand ands opened p e = e
 
-  sign-walk : (j : Join) (opened p : ℕ) → Behind 2 opened p → byteAt s p ≡ signOf j → stateAt s (p + 1) ≡ Name 2 0 opened
-  sign-walk ors opened p h e = behind-by 2 opened p bar h e (lit< tt)
-  sign-walk ands opened p h e = behind-by 2 opened p ampersand h e (lit< tt)
+  sign-walk : (j : Join) (opened p : ℕ) → Behind needSection opened p → byteAt s p ≡ signOf j → stateAt s (p + 1) ≡ Name needSection 0 opened
+  sign-walk ors opened p h e = behind-by needSection opened p bar h e (lit< tt)
+  sign-walk ands opened p h e = behind-by needSection opened p ampersand h e (lit< tt)
 
   stands-walk : {kind : Kind} {deep p q : ℕ} {v : Formula} (opened : ℕ) → opened + deep ≤ 8 → Stands s kind deep p q v → Enters kind opened p
-      → Behind 2 opened q
+      → Behind needSection opened q
   stands-walk opened h (first {j} {deep} {p} {r} {q} one more) e =
       stands-walk opened h more (stands-walk opened h one (enters-operand j opened p e))
   stands-walk opened h (last no-more) e = e
   stands-walk opened h (next {j} {deep} {p} {r} {q} signed one more) e =
       stands-walk opened h more (stands-walk opened h one (enters-operand j opened (p + 1) (sign-walk j opened p e signed)))
-  stands-walk opened h (name {deep} {p} {q} here) e = name-walk 2 opened p q here e
+  stands-walk opened h (name {deep} {p} {q} here) e = name-walk needSection opened p q here e
   stands-walk opened h (bracketed {deep} {p} {q} open-said inner close-said) e =
-      let in-bracket : stateAt s (p + 1) ≡ Name 2 0 (suc opened) =
-      state-by s p bracketOpen (Name 2 0 opened) e open-said (lit< tt)
-      ∙ cond-holds (ltb opened 8) (Name 2 0 (suc opened)) Wrong (lt-ltb opened 8 (omega arith)) in
+      let in-bracket : stateAt s (p + 1) ≡ Name needSection 0 (suc opened) =
+      state-by s p bracketOpen (Name needSection 0 opened) e open-said (lit< tt)
+      ∙ cond-holds (ltb opened 8) (Name needSection 0 (suc opened)) Wrong (lt-ltb opened 8 (omega arith)) in
       let behind = stands-walk (suc opened) (omega arith) inner in-bracket in
-      λ g. state-from (q + 1) (Closed opened) g (behind-by 2 (suc opened) q bracketClose behind close-said (lit< tt))
+      λ g. state-from (q + 1) (Closed opened) g (behind-by needSection (suc opened) q bracketClose behind close-said (lit< tt))
 
   -- ---- lines
 
@@ -148,39 +148,39 @@ module _ (s : List ℕ) where
         ended-at : {r : ℕ} → Behind section 0 r → byteAt s r ≡ lineEnd → stateAt s (r + 1) ≡ Begin section
         ended-at {r} behind ended = behind-by section 0 r lineEnd behind ended (lit< tt)
 
-  forbids-walk : {p q : ℕ} {lines : List (Line (List Spot))} → Lines s (keyOf 1) (Names s plus) p q lines → stateAt s p ≡ Begin 0
-      → (after : ℕ) × (after < 2) × (stateAt s q ≡ Begin after)
+  forbids-walk : {p q : ℕ} {lines : List (Line (List Spot))} → Lines s (keyOf forbidSection) (Names s plus) p q lines → stateAt s p ≡ Begin columnsSection
+      → (after : ℕ) × (after < needSection) × (stateAt s q ≡ Begin after)
   forbids-walk lines e =
-      lines-walk 1 (Names s plus) (λ before. before < 2) (lit< tt) refl forbid-begins (lit< tt)
-      (λ p q spots names e. names-walk 1 plus refl (lit< tt) names e) 0 (lit< tt) lines e
+      lines-walk forbidSection (Names s plus) (λ before. before < needSection) (lit< tt) refl forbid-begins (lit< tt)
+      (λ p q spots names e. names-walk forbidSection plus refl (lit< tt) names e) 0 (lit< tt) lines e
 
-  needs-walk : {p q : ℕ} {lines : List (Line Formula)} (before : ℕ) → Lines s (keyOf 2) (Stands s (list ors) 8) p q lines → stateAt s p ≡ Begin before
+  needs-walk : {p q : ℕ} {lines : List (Line Formula)} (before : ℕ) → Lines s (keyOf needSection) (Stands s (list ors) 8) p q lines → stateAt s p ≡ Begin before
       → (after : ℕ) × Unit {0} × (stateAt s q ≡ Begin after)
   needs-walk before lines e =
-      lines-walk 2 (Stands s (list ors) 8) (λ before. Unit {0}) (lit< tt) refl (λ before h. refl) tt
+      lines-walk needSection (Stands s (list ors) 8) (λ before. Unit {0}) (lit< tt) refl (λ before h. refl) tt
       (λ p q v stands e. stands-walk 0 (lit≤ tt) stands e) before tt lines e
 
   -- ---- the number
 
   digit-walk : (p digits : ℕ) → digit (byteAt s p) ≡ true → stateAt s p ≡ Number digits
-      → stateAt s (p + 1) ≡ cond (eqb digits 0) (cond (eqb (byteAt s p) 48) (Number 1) (Number 2)) (cond (eqb digits 2) (Number 3) Wrong)
+      → stateAt s (p + 1) ≡ cond (eqb digits noDigit) (cond (eqb (byteAt s p) 48) (Number digitZero) (Number otherDigit)) (cond (eqb digits otherDigit) (Number twoDigits) Wrong)
   digit-walk p digits d e =
       let b = byteAt s p in
       state-from p (Number digits) (inside s p (digit-not b 0 refl d)) e
-      ∙ cond-fails (eqb b 10) (cond (eqb digits 0) Wrong Done) _ (ne-eqb b 10 (digit-not b 10 refl d))
+      ∙ cond-fails (eqb b 10) (cond (eqb digits noDigit) Wrong Done) _ (ne-eqb b 10 (digit-not b 10 refl d))
       ∙ cond-holds (digit b) _ Wrong d
 
-  number-walk : {p q v : ℕ} → NumberAt s p q v → stateAt s p ≡ Number 0 → byteAt s q ≡ lineEnd → stateAt s (q + 1) ≡ Done
-  number-walk (one-digit {p} d) e ended = go (eqb (byteAt s p) 48) (digit-walk p 0 d e)
+  number-walk : {p q v : ℕ} → NumberAt s p q v → stateAt s p ≡ Number noDigit → byteAt s q ≡ lineEnd → stateAt s (q + 1) ≡ Done
+  number-walk (one-digit {p} d) e ended = go (eqb (byteAt s p) 48) (digit-walk p noDigit d e)
     where
-      go : (zeroth : Bool) → stateAt s (p + 1) ≡ cond zeroth (Number 1) (Number 2) → stateAt s (p + 1 + 1) ≡ Done
-      go true f = state-by s (p + 1) 10 (Number 1) f ended (lit< tt)
-      go false f = state-by s (p + 1) 10 (Number 2) f ended (lit< tt)
+      go : (zeroth : Bool) → stateAt s (p + 1) ≡ cond zeroth (Number digitZero) (Number otherDigit) → stateAt s (p + 1 + 1) ≡ Done
+      go true f = state-by s (p + 1) 10 (Number digitZero) f ended (lit< tt)
+      go false f = state-by s (p + 1) 10 (Number otherDigit) f ended (lit< tt)
   number-walk (two-digits {p} d n d′) e ended =
-      let one : stateAt s (p + 1) ≡ Number 2 = digit-walk p 0 d e ∙ cond-fails (eqb (byteAt s p) 48) (Number 1) (Number 2) (ne-eqb (byteAt s p) 48 n) in
-      let two : stateAt s (p + 1 + 1) ≡ Number 3 = digit-walk (p + 1) 2 d′ one in
+      let one : stateAt s (p + 1) ≡ Number otherDigit = digit-walk p noDigit d e ∙ cond-fails (eqb (byteAt s p) 48) (Number digitZero) (Number otherDigit) (ne-eqb (byteAt s p) 48 n) in
+      let two : stateAt s (p + 1 + 1) ≡ Number twoDigits = digit-walk (p + 1) otherDigit d′ one in
       let place : p + 1 + 1 ≡ p + 2 = omega arith in
-      state-by s (p + 2) 10 (Number 3) (subst (λ (q : ℕ). stateAt s q ≡ Number 3) place two) ended (lit< tt)
+      state-by s (p + 2) 10 (Number twoDigits) (subst (λ (q : ℕ). stateAt s q ≡ Number twoDigits) place two) ended (lit< tt)
 
   -- ---- the text
 
@@ -188,12 +188,12 @@ module _ (s : List ℕ) where
   pub form-done : HasForm s → run begin s ≡ Done
   unfolding run
   form-done (sheet, t) =
-      let columns : stateAt s 8 ≡ Name 0 0 0 = key-walk 7 0 0 0 refl (t .columnsSaid) refl in
-      let first-line : stateAt s (t .columnsTo + 1) ≡ Begin 0 =
-      behind-by 0 0 (t .columnsTo) lineEnd (names-walk 0 comma refl (lit< tt) (t .columns) columns) (t .columnsEnd) (lit< tt) in
+      let columns : stateAt s 8 ≡ Name columnsSection 0 0 = key-walk 7 columnsSection 0 0 refl (t .columnsSaid) refl in
+      let first-line : stateAt s (t .columnsTo + 1) ≡ Begin columnsSection =
+      behind-by columnsSection 0 (t .columnsTo) lineEnd (names-walk columnsSection comma refl (lit< tt) (t .columns) columns) (t .columnsEnd) (lit< tt) in
       let forbids = forbids-walk (t .forbids) first-line in
       let needs = needs-walk (forbids .0) (t .needs) (forbids .2) in
-      let number = line-walk 3 (needs .0) (t .endFrom) (lit< tt) refl (t .endSaid) (needs .2) in
+      let number = line-walk endSection (needs .0) (t .endFrom) (lit< tt) refl (t .endSaid) (needs .2) in
       let done = number-walk (t .number) number (t .numberEnd) in
       let whole = t .whole in
       sym (state-all s (t .numberTo + 1) (omega arith)) ∙ done

@@ -1,4 +1,4 @@
--- The machine that takes a text byte by byte: which state follows a state and a byte. Sections are numbers: 0 columns, 1 forbid, 2 need, 3 end.
+-- The machine that takes a text byte by byte: which state follows a state and a byte.
 use Prim.{Unit}
 use mathlib.Core.Bool.{Bool, false, cond, _||_}
 use mathlib.Core.List.{List, [], _∷_}
@@ -26,13 +26,39 @@ use Rattle.rules.specs.Phrases.{mostBrackets}
 use Rattle.form.specs.declared.machine.State.{State}
 use Rattle.form.specs.declared.machine.State.the-variants.{Key, Begin, Name, Closed, Number, Done, Wrong}
 
+-- the sections of a text, each with its key
+abbrev pub columnsSection : ℕ
+columnsSection = 0
+
+abbrev pub forbidSection : ℕ
+forbidSection = 1
+
+abbrev pub needSection : ℕ
+needSection = 2
+
+abbrev pub endSection : ℕ
+endSection = 3
+
+-- what stands of the end line's number: no digit yet, the digit 0, another digit, two digits
+abbrev pub noDigit : ℕ
+noDigit = 0
+
+abbrev pub digitZero : ℕ
+digitZero = 1
+
+abbrev pub otherDigit : ℕ
+otherDigit = 2
+
+abbrev pub twoDigits : ℕ
+twoDigits = 3
+
 -- the key of a section's lines
 abbrev pub keyOf : ℕ → List ℕ
-keyOf section = cond (eqb section 0) columnsKey (cond (eqb section 1) forbidKey (cond (eqb section 2) needKey endKey))
+keyOf section = cond (eqb section columnsSection) columnsKey (cond (eqb section forbidSection) forbidKey (cond (eqb section needSection) needKey endKey))
 
 -- behind a key: an item or the number must come
 abbrev pub valueOf : ℕ → State
-valueOf section = cond (ltb section 3) (Name section 0 0) (Number 0)
+valueOf section = cond (ltb section endSection) (Name section 0 0) (Number noDigit)
 
 -- k bytes of a key stand, and the next one comes
 abbrev pub along : List ℕ → ℕ → ℕ → ℕ → State
@@ -44,18 +70,18 @@ inKey section = along (keyOf section) section
 -- at the beginning of a line f, n or e may come; behind a need line no f
 abbrev pub atLine : ℕ → ℕ → State
 atLine section b =
-    cond (eqb b 102) (cond (ltb section 2) (Key 1 1) Wrong) (cond (eqb b 110) (Key 2 1) (cond (eqb b 101) (Key 3 1) Wrong))
+    cond (eqb b 102) (cond (ltb section needSection) (Key forbidSection 1) Wrong) (cond (eqb b 110) (Key needSection 1) (cond (eqb b 101) (Key endSection 1) Wrong))
 
 -- the sign joins the items of a section
 abbrev pub joining : ℕ → ℕ → Bool
 joining section b =
-    cond (eqb b comma) (eqb section 0) (cond (eqb b plus) (eqb section 1) (cond (eqb b ampersand || eqb b bar) (eqb section 2) false))
+    cond (eqb b comma) (eqb section columnsSection) (cond (eqb b plus) (eqb section forbidSection) (cond (eqb b ampersand || eqb b bar) (eqb section needSection) false))
 
 -- where an item must come
 abbrev pub atItem : ℕ → ℕ → ℕ → State
 atItem section opened b =
     cond (letter b) (Name section 1 opened)
-    (cond (eqb b bracketOpen) (cond (eqb section 2) (cond (ltb opened mostBrackets) (Name section 0 (suc opened)) Wrong) Wrong) Wrong)
+    (cond (eqb b bracketOpen) (cond (eqb section needSection) (cond (ltb opened mostBrackets) (Name section 0 (suc opened)) Wrong) Wrong) Wrong)
 
 -- a bracket is closed, of so many that are open
 abbrev pub closing : ℕ → State
@@ -82,15 +108,15 @@ nameOn section (suc n) opened b =
 -- in the end line's number
 abbrev pub inNumber : ℕ → ℕ → State
 inNumber digits b =
-    cond (eqb b lineEnd) (cond (eqb digits 0) Wrong Done)
-    (cond (digit b) (cond (eqb digits 0) (cond (eqb b 48) (Number 1) (Number 2)) (cond (eqb digits 2) (Number 3) Wrong)) Wrong)
+    cond (eqb b lineEnd) (cond (eqb digits noDigit) Wrong Done)
+    (cond (digit b) (cond (eqb digits noDigit) (cond (eqb b 48) (Number digitZero) (Number otherDigit)) (cond (eqb digits otherDigit) (Number twoDigits) Wrong)) Wrong)
 
 -- the state behind one more byte
 abbrev pub step : State → ℕ → State
 step (Key section k) b = inKey section k b
 step (Begin section) b = atLine section b
 step (Name section count opened) b = nameOn section count opened b
-step (Closed opened) b = behindItem 2 opened b
+step (Closed opened) b = behindItem needSection opened b
 step (Number digits) b = inNumber digits b
 step Done b = Wrong
 step Wrong b = Wrong
@@ -107,7 +133,7 @@ InsideKey Wrong = Unit {0}
 
 -- the state where the text begins: columns=
 abbrev pub begin : State
-begin = Key 0 0
+begin = Key columnsSection 0
 
 -- the state behind all these bytes
 unfoldable pub run : State → List ℕ → State

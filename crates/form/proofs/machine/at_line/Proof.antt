@@ -1,13 +1,14 @@
 -- `form::machine::at_line` meets its contract. Assumes nothing.
 use borrow.Author.Tests.{lt-ltb, le-ltb, eq-eqb, ne-eqb}
+use Rattle.form.specs.Machine.{needSection}
 use Rattle.form.proofs.machine.at_line.Statement.{statement}
 use Rattle.form.proofs.machine.at_line.Tie as tie
 
 returns : tie.Need-returns
-returns c = let a = c .before .before .args in rw (eq-eqb (a .byte) 102 (c .before .if1 .taken), lt-ltb (a .section) 2 (c .if2 .taken))
+returns c = let a = c .before .before .args in rw (eq-eqb (a .byte) 102 (c .before .if1 .taken), lt-ltb (a .section) needSection (c .if2 .taken))
 
 returns-2 : tie.Need-returns-2
-returns-2 c = let a = c .before .before .args in rw (eq-eqb (a .byte) 102 (c .before .if1 .taken), le-ltb (a .section) 2 (c .if2 .left))
+returns-2 c = let a = c .before .before .args in rw (eq-eqb (a .byte) 102 (c .before .if1 .taken), le-ltb (a .section) needSection (c .if2 .left))
 
 returns-3 : tie.Need-returns-3
 returns-3 c = let b = c .before .before .args .byte in rw (ne-eqb b 102 (c .before .if1 .left), eq-eqb b 110 (c .if3 .taken))

@@ -5,7 +5,7 @@ use lib.Dec.{eqb}
 use borrow.Author.Needs.{needs}
 use borrow.Author.Tests.{eq-eqb, ne-eqb, not-true, not-false}
 use Rattle.form.specs.declared.machine.State.the-variants.{Number, Wrong}
-use Rattle.form.specs.Machine.{inNumber}
+use Rattle.form.specs.Machine.{noDigit, digitZero, otherDigit, twoDigits, inNumber}
 use Rattle.form.proofs.machine.in_number.Statement.{statement}
 use Rattle.form.proofs.machine.in_number.Tie as tie
 use Rattle.form.proofs.machine.in_number.Reads as reads
@@ -15,7 +15,7 @@ use Rattle.naming.proofs.signs.digit.Reads as digit-reads
 -- what a digit leads to
 digit-came : (d : lts.Else3 (digit-reads.Asked, digit-reads.Learnt) reads.Pre reads.Post) → let a = d .before .before .before .args in
     inNumber (a .digits) (a .byte)
-    ≡ cond (eqb (a .digits) 0) (cond (eqb (a .byte) 48) (Number 1) (Number 2)) (cond (eqb (a .digits) 2) (Number 3) Wrong)
+    ≡ cond (eqb (a .digits) noDigit) (cond (eqb (a .byte) 48) (Number digitZero) (Number otherDigit)) (cond (eqb (a .digits) otherDigit) (Number twoDigits) Wrong)
 digit-came d =
     rw (
       ne-eqb (d .before .before .before .args .byte) 10 (d .before .before .if1 .left),
@@ -24,10 +24,10 @@ digit-came d =
     )
 
 returns : tie.Need-returns
-returns c = let a = c .before .before .args in rw (eq-eqb (a .byte) 10 (c .before .if1 .taken), eq-eqb (a .digits) 0 (c .if2 .taken))
+returns c = let a = c .before .before .args in rw (eq-eqb (a .byte) 10 (c .before .if1 .taken), eq-eqb (a .digits) noDigit (c .if2 .taken))
 
 returns-2 : tie.Need-returns-2
-returns-2 c = let a = c .before .before .args in rw (eq-eqb (a .byte) 10 (c .before .if1 .taken), ne-eqb (a .digits) 0 (c .if2 .left))
+returns-2 c = let a = c .before .before .args in rw (eq-eqb (a .byte) 10 (c .before .if1 .taken), ne-eqb (a .digits) noDigit (c .if2 .left))
 
 digit-requires : tie.Need-digit-requires
 digit-requires c κs = search needs
@@ -43,22 +43,22 @@ returns-3 c =
 returns-4 : tie.Need-returns-4
 returns-4 c =
     let a = c .before .before .before .before .before .args in
-    rw (digit-came (c .before .before), eq-eqb (a .digits) 0 (c .before .if4 .taken), eq-eqb (a .byte) 48 (c .if5 .taken))
+    rw (digit-came (c .before .before), eq-eqb (a .digits) noDigit (c .before .if4 .taken), eq-eqb (a .byte) 48 (c .if5 .taken))
 
 returns-5 : tie.Need-returns-5
 returns-5 c =
     let a = c .before .before .before .before .before .args in
-    rw (digit-came (c .before .before), eq-eqb (a .digits) 0 (c .before .if4 .taken), ne-eqb (a .byte) 48 (c .if5 .left))
+    rw (digit-came (c .before .before), eq-eqb (a .digits) noDigit (c .before .if4 .taken), ne-eqb (a .byte) 48 (c .if5 .left))
 
 returns-6 : tie.Need-returns-6
 returns-6 c =
     let a = c .before .before .before .before .before .args in
-    rw (digit-came (c .before .before), ne-eqb (a .digits) 0 (c .before .if4 .left), eq-eqb (a .digits) 2 (c .if6 .taken))
+    rw (digit-came (c .before .before), ne-eqb (a .digits) noDigit (c .before .if4 .left), eq-eqb (a .digits) otherDigit (c .if6 .taken))
 
 returns-7 : tie.Need-returns-7
 returns-7 c =
     let a = c .before .before .before .before .before .args in
-    rw (digit-came (c .before .before), ne-eqb (a .digits) 0 (c .before .if4 .left), ne-eqb (a .digits) 2 (c .if6 .left))
+    rw (digit-came (c .before .before), ne-eqb (a .digits) noDigit (c .before .if4 .left), ne-eqb (a .digits) otherDigit (c .if6 .left))
 
 pub in-number-spec : {M : Type 1} → statement M
 in-number-spec = tie.close (tie.spec returns returns-2 digit-requires returns-3 returns-4 returns-5 returns-6 returns-7)
