@@ -1,4 +1,5 @@
--- Every state but the wrong one can be completed: the key, the name, the brackets and the line are closed, then comes `end=0`. Assumes nothing.
+-- Every state but the wrong one can be completed, so only a wrong state tells the place: the key, the name, the brackets and the line are
+-- closed, then comes `end=0`. Assumes nothing.
 use mathlib.Core.Path.{_≡_, refl, ap, _∙_}
 use mathlib.Core.Bool.{Bool, true, false, cond}
 use mathlib.Core.List.{List, [], _∷_, _++_}
@@ -79,7 +80,7 @@ complete-key section k h =
           ∙ behind .1,
     )
 
--- every sound state but the wrong one can be completed
+-- every state within its key but the wrong one can be completed
 pub can-end : (state : State) → InsideKey state → (state ≡ Wrong → ⊥) → CanEnd state
 unfolding run
 can-end (Key section k) h f = complete-key section k h

@@ -1,4 +1,4 @@
--- Every state of a text is sound. Assumes nothing.
+-- In every state of a text fewer bytes of a key stand than it has, so the next one can be asked for. Assumes nothing.
 use mathlib.Core.Path.{_≡_, refl}
 use mathlib.Core.Bool.{Bool, true, false, cond}
 use mathlib.Core.List.{List, [], _∷_}
@@ -11,10 +11,11 @@ use Rattle.rules.specs.Phrases.{mostBrackets}
 use Rattle.rules.specs.Names.{mostNameBytes}
 use Rattle.form.specs.declared.machine.State.{State}
 use Rattle.form.specs.declared.machine.State.the-variants.{Key, Begin, Name, Closed, Number, Done, Wrong}
-use Rattle.form.specs.Machine.{needSection, endSection, noDigit, digitZero, otherDigit, twoDigits, keyOf, valueOf, atLine, joining, atItem, closing, lineEnding, behindItem, inNumber, step, InsideKey}
-use Rattle.form.specs.Machine.{begin, run, stateAt}
+use Rattle.form.specs.Machine.{needSection, endSection, noDigit, otherDigit, onDigit}
+use Rattle.form.specs.Machine.{keyOf, valueOf, atLine, joining, atItem, closing, lineEnding, behindItem}
+use Rattle.form.specs.Machine.{inNumber, step, InsideKey, begin, run, stateAt}
 
--- what a test chooses is sound if both are
+-- what a test chooses is within its key if both are
 inside-cond : (test : Bool) (x y : State) → (test ≡ true → InsideKey x) → InsideKey y → InsideKey (cond test x y)
 inside-cond true x y f g = f refl
 inside-cond false x y f g = g
@@ -25,7 +26,8 @@ inside-value section = inside-cond (ltb section endSection) (Name section 0 0) (
 inside-item : (section opened b : ℕ) → InsideKey (atItem section opened b)
 inside-item section opened b =
     inside-cond (letter b) _ _ (λ e. tt)
-    (inside-cond (eqb b bracketOpen) _ _ (λ e. inside-cond (eqb section needSection) _ _ (λ e. inside-cond (ltb opened mostBrackets) _ _ (λ e. tt) tt) tt) tt)
+    (inside-cond (eqb b bracketOpen) _ _
+    (λ e. inside-cond (eqb section needSection) _ _ (λ e. inside-cond (ltb opened mostBrackets) _ _ (λ e. tt) tt) tt) tt)
 
 inside-closing : (opened : ℕ) → InsideKey (closing opened)
 inside-closing zero = tt
@@ -40,7 +42,7 @@ inside-behind section opened b =
     inside-cond (joining section b) _ _ (λ e. tt)
     (inside-cond (eqb b bracketClose) _ _ (λ e. inside-closing opened) (inside-cond (eqb b lineEnd) _ _ (λ e. inside-ending section opened) tt))
 
-inside-digit : (digits b : ℕ) → InsideKey (cond (eqb digits noDigit) (cond (eqb b 48) (Number digitZero) (Number otherDigit)) (cond (eqb digits otherDigit) (Number twoDigits) Wrong))
+inside-digit : (digits b : ℕ) → InsideKey (onDigit digits b)
 inside-digit digits b =
     inside-cond (eqb digits noDigit) _ _ (λ e. inside-cond (eqb b 48) _ _ (λ e. tt) tt) (inside-cond (eqb digits otherDigit) _ _ (λ e. tt) tt)
 
@@ -54,7 +56,7 @@ inside-line section b =
     inside-cond (eqb b 102) _ _ (λ e. inside-cond (ltb section needSection) _ _ (λ e. lit< tt) tt)
     (inside-cond (eqb b 110) _ _ (λ e. lit< tt) (inside-cond (eqb b 101) _ _ (λ e. lit< tt) tt))
 
--- every step leads to a sound state
+-- every step leads to such a state
 inside-step : (state : State) (b : ℕ) → InsideKey (step state b)
 inside-step (Key section k) b =
     inside-cond (eqb b (getD (keyOf section) k 0)) _ _
@@ -73,6 +75,6 @@ unfolding run
 inside-run state [] h = h
 inside-run state (b ∷ bytes) h = inside-run (step state b) bytes (inside-step state b)
 
--- every state of a text is sound
+-- every state of a text is such a state
 pub inside-at : (s : List ℕ) (p : ℕ) → InsideKey (stateAt s p)
 inside-at s p = inside-run begin (take p s) (lit< tt)

@@ -26,6 +26,7 @@ all-bytes section = go (eqb section columnsSection) (eqb section forbidSection) 
     go false false true = refl
     go false false false = refl
 
+-- so the byte at a place of a key is not 0
 pub key-byte : (section k : ℕ) → k < length (keyOf section) → 0 < getD (keyOf section) k 0
 key-byte section k h = ltb-true 0 (getD (keyOf section) k 0) (every-in (ltb 0) (all-bytes section) (getD-in (keyOf section) k 0 h))
 

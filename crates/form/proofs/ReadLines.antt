@@ -13,7 +13,7 @@ use borrow.Author.Tests.{lt-ltb, le-ltb, eqb-true, eqb-false}
 use Rattle.rules.specs.Signs.{byteAt, Says, says-all, says-byte, digit, lineEnd}
 use Rattle.rules.specs.Texts.{Line, line, Lines, no-line, one-line, Number as NumberAt, one-digit, two-digits}
 use Rattle.form.specs.declared.machine.State.the-variants.{Key, Begin, Name, Number, Done, Wrong}
-use Rattle.form.specs.Machine.{noDigit, digitZero, otherDigit, twoDigits, keyOf, valueOf, step, stateAt}
+use Rattle.form.specs.Machine.{onDigit, noDigit, digitZero, otherDigit, twoDigits, keyOf, valueOf, step, stateAt}
 use Rattle.form.proofs.Keys.{key-said}
 use Rattle.form.proofs.Runs.{cond-holds, cond-fails}
 use Rattle.form.proofs.Living.{LeadsToEnd, decided, not-key, not-line, not-number, alive, within, goes, must, forks}
@@ -32,6 +32,7 @@ LinesFrom {A} s section Value before p =
 module _ {s : List ℕ} (led : LeadsToEnd s) where
   -- ---- keys
 
+  -- the rest of a key can be read, and leads to the value
   pub read-key : (left section k p : ℕ) → suc k + left ≡ length (keyOf section) → stateAt s p ≡ Key section k
       → Says s p (drop k (keyOf section)) × (stateAt s (p + suc left) ≡ valueOf section)
   read-key zero section k p h e =
@@ -54,6 +55,7 @@ module _ {s : List ℕ} (led : LeadsToEnd s) where
 
   -- ---- lines
 
+  -- a line's key can be read, and leads to the value
   pub read-line : (section before p : ℕ) → 1 < length (keyOf section) → step (Begin before) (getD (keyOf section) 0 0) ≡ Key section 1
       → byteAt s p ≡ getD (keyOf section) 0 0 → stateAt s p ≡ Begin before
       → Says s p (keyOf section) × (stateAt s (p + length (keyOf section)) ≡ valueOf section)
@@ -109,7 +111,7 @@ module _ {s : List ℕ} (led : LeadsToEnd s) where
   number-step : (p digits : ℕ) → stateAt s p ≡ Number digits
       → ((byteAt s p ≡ lineEnd) × (stateAt s (p + 1) ≡ cond (eqb digits noDigit) Wrong Done))
       ⊎ ((digit (byteAt s p) ≡ true)
-      × (stateAt s (p + 1) ≡ cond (eqb digits noDigit) (cond (eqb (byteAt s p) 48) (Number digitZero) (Number otherDigit)) (cond (eqb digits otherDigit) (Number twoDigits) Wrong)))
+      × (stateAt s (p + 1) ≡ onDigit digits (byteAt s p)))
   number-step p digits e =
       let b = byteAt s p in
       ⊎-elim (λ ended. inl (eqb-true b lineEnd (ended .0), ended .1)) (λ on. inr (must led (p + 1) (digit b) _ (on .1)))
@@ -124,8 +126,8 @@ module _ {s : List ℕ} (led : LeadsToEnd s) where
       (number-step (p + 1) digitZero e)
 
   -- behind two digits
-  two-number : (p : ℕ) → digit (byteAt s p) ≡ true → (byteAt s p ≡ 48 → ⊥) → digit (byteAt s (p + 1)) ≡ true → stateAt s (p + 1 + 1) ≡ Number twoDigits
-      → NumberFrom s p
+  two-number : (p : ℕ) → digit (byteAt s p) ≡ true → (byteAt s p ≡ 48 → ⊥) → digit (byteAt s (p + 1)) ≡ true
+      → stateAt s (p + 1 + 1) ≡ Number twoDigits → NumberFrom s p
   two-number p d n d′ e =
       let place : p + 1 + 1 ≡ p + 2 = omega arith in
       ⊎-elim
@@ -141,7 +143,8 @@ module _ {s : List ℕ} (led : LeadsToEnd s) where
       (λ on. two-number p d n (on .0) (on .1))
       (number-step (p + 1) otherDigit e)
 
-  first-digit : (p : ℕ) → digit (byteAt s p) ≡ true → stateAt s (p + 1) ≡ cond (eqb (byteAt s p) 48) (Number digitZero) (Number otherDigit) → NumberFrom s p
+  first-digit : (p : ℕ) → digit (byteAt s p) ≡ true → stateAt s (p + 1) ≡ cond (eqb (byteAt s p) 48) (Number digitZero) (Number otherDigit)
+      → NumberFrom s p
   first-digit p d e =
       let b = byteAt s p in
       ⊎-elim

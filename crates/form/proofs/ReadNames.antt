@@ -73,7 +73,9 @@ module _ {s : List ℕ} (led : LeadsToEnd s) where
       let to : stateAt s (i + 1) ≡ Name section (suc (suc n)) opened → stateAt s (p + suc (suc n)) ≡ Name section (suc (suc n)) opened =
       subst (λ (q : ℕ). stateAt s q ≡ Name section (suc (suc n)) opened) place in
       ⊎-elim
-      (λ on. name-on left section opened p (suc n) (omega arith) (on .1) l (subst (NamedTo s p) place (from-more (λ (j : ℕ). inName (byteAt s j) ≡ true) so (on .0))) (to (on .2)))
+      (λ on.
+      let so′ = subst (NamedTo s p) place (from-more (λ (j : ℕ). inName (byteAt s j) ≡ true) so (on .0)) in
+      name-on left section opened p (suc n) (omega arith) (on .1) l so′ (to (on .2)))
       (λ over. name-ends section opened p n g l so (over .0) (over .1))
       (name-step section opened n i e)
 

@@ -40,7 +40,8 @@ use Rattle.form.proofs.ReadNames.{ItemEnds, ValueFrom, item-ends, read-
 
 -- a phrase of this kind from place p on; Ends says what is known of the byte behind it
 abbrev PhraseFrom : List ℕ → (ℕ → Type 0) → Kind → ℕ → ℕ → Type 0
-PhraseFrom s Ends kind opened p = (q : ℕ) × (v : Formula) × (p < q) × Stands s kind (8 - opened) p q v × Ends (byteAt s q) × (ItemEnds s needSection opened q)
+PhraseFrom s Ends kind opened p =
+    (q : ℕ) × (v : Formula) × (p < q) × Stands s kind (8 - opened) p q v × Ends (byteAt s q) × (ItemEnds s needSection opened q)
 
 -- such a phrase can be read wherever an item must come and fewer than n bytes are left
 abbrev CanRead : List ℕ → (ℕ → Type 0) → Kind → ℕ → Type 0
@@ -70,7 +71,8 @@ module _ {s : List ℕ} (led : LeadsToEnd s) where
 
     -- what follows the operands that are read, which say u
     abbrev RestFrom : ℕ → Formula → ℕ → Type 0
-    RestFrom opened u r = (q : ℕ) × (w : Formula) × (r ≤ q) × Stands s (rest j u) (8 - opened) r q w × EndsList (byteAt s q) × (ItemEnds s needSection opened q)
+    RestFrom opened u r =
+        (q : ℕ) × (w : Formula) × (r ≤ q) × Stands s (rest j u) (8 - opened) r q w × EndsList (byteAt s q) × (ItemEnds s needSection opened q)
 
     rest-next : (opened r : ℕ) (u : Formula) → byteAt s r ≡ signOf j → (one : PhraseFrom s Ends (operand j) opened (r + 1))
         → RestFrom opened (joinOf j u (one .1)) (one .0) → RestFrom opened u r

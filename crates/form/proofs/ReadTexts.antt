@@ -33,13 +33,13 @@ module _ {s : List ℕ} (led : LeadsToEnd s) where
 
   read-forbids : (p : ℕ) → stateAt s p ≡ Begin columnsSection → LinesFrom s forbidSection (Names s plus) columnsSection p
   read-forbids p e =
-      read-lines led forbidSection (Names s plus) (λ before. before < needSection) (lit< tt) refl forbid-begins (lit< tt) read-forbid-line (length s + 1) 0 p (omega arith)
-      (lit< tt) e
+      read-lines led forbidSection (Names s plus) (λ before. before < needSection) (lit< tt) refl forbid-begins (lit< tt) read-forbid-line
+      (length s + 1) columnsSection p (omega arith) (lit< tt) e
 
   read-needs : (before p : ℕ) → stateAt s p ≡ Begin before → LinesFrom s needSection (Stands s (list ors) 8) before p
   read-needs before p e =
-      read-lines led needSection (Stands s (list ors) 8) (λ before. Unit {0}) (lit< tt) refl (λ before h. refl) tt (read-need led) (length s + 1) before p
-      (omega arith) tt e
+      read-lines led needSection (Stands s (list ors) 8) (λ before. Unit {0}) (lit< tt) refl (λ before h. refl) tt (read-need led)
+      (length s + 1) before p (omega arith) tt e
 
   read-end-line : (after p : ℕ) → stateAt s p ≡ Begin after → (byteAt s p ≡ 102 → ⊥) → (byteAt s p ≡ 110 → ⊥)
       → Says s p (keyOf endSection) × NumberFrom s (p + 4)
@@ -56,7 +56,8 @@ module _ {s : List ℕ} (led : LeadsToEnd s) where
       alive led (p + 1) (goes led p (Begin after) not-line e ∙ ap (step (Begin after)) f ∙ ap (λ (section : ℕ). step (Begin section) 102) behind)
 
   -- no forbid line follows the needs
-  no-forbid-left : {p : ℕ} (forbids : LinesFrom s forbidSection (Names s plus) columnsSection p) (needs : LinesFrom s needSection (Stands s (list ors) 8) (forbids .3) (forbids .0))
+  no-forbid-left : {p : ℕ} (forbids : LinesFrom s forbidSection (Names s plus) columnsSection p)
+      (needs : LinesFrom s needSection (Stands s (list ors) 8) (forbids .3) (forbids .0))
       → byteAt s (needs .0) ≡ 102 → ⊥
   no-forbid-left forbids needs f =
       ⊎-elim

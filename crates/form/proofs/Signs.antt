@@ -1,4 +1,4 @@
--- Laws of the signs: bytes of names, digits, and the sign that joins the items of a section. Assumes nothing.
+-- Laws of digits and of the signs that join the items of a section. Assumes nothing.
 use mathlib.Core.Path.{_≡_, refl, sym, ap, _∙_}
 use mathlib.Core.Bool.{Bool, true, false, cond, _||_, true≢false}
 use Prim.Native.Nat.{ℕ}

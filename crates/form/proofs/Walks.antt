@@ -18,7 +18,8 @@ use Rattle.rules.proofs.Signs.{inside, letter-named, named-inside, says-first}
 use Rattle.rules.proofs.Names.{name-some}
 use Rattle.form.specs.declared.machine.State.{State}
 use Rattle.form.specs.declared.machine.State.the-variants.{Key, Begin, Name, Closed, Number, Done, Wrong}
-use Rattle.form.specs.Machine.{columnsSection, forbidSection, needSection, endSection, noDigit, digitZero, otherDigit, twoDigits, keyOf, valueOf, joining, behindItem, step, begin, run, stateAt}
+use Rattle.form.specs.Machine.{columnsSection, forbidSection, needSection, endSection, noDigit, digitZero, otherDigit, twoDigits, onDigit}
+use Rattle.form.specs.Machine.{keyOf, valueOf, joining, behindItem, step, begin, run, stateAt}
 use Rattle.form.proofs.Signs.{digit-not}
 use Rattle.form.proofs.Keys.{forbid-begins, key-byte, along-on, along-behind}
 use Rattle.form.proofs.Runs.{cond-holds, cond-fails, state-next, state-by, state-all}
@@ -85,7 +86,8 @@ module _ (s : List ℕ) where
       → stateAt s p ≡ Name section 0 0 → Behind section 0 q
   names-walk section sign j g (last-name {p} {q} here no-more) e = name-walk section 0 p q here e
   names-walk section sign j g (more-names {p} {r} here signed more) e =
-      names-walk section sign j g more (behind-by section 0 r sign (name-walk section 0 p r here e) signed g ∙ cond-holds (joining section sign) _ _ j)
+      names-walk section sign j g more
+      (behind-by section 0 r sign (name-walk section 0 p r here e) signed g ∙ cond-holds (joining section sign) _ _ j)
 
   -- ---- phrases
 
@@ -148,14 +150,14 @@ module _ (s : List ℕ) where
         ended-at : {r : ℕ} → Behind section 0 r → byteAt s r ≡ lineEnd → stateAt s (r + 1) ≡ Begin section
         ended-at {r} behind ended = behind-by section 0 r lineEnd behind ended (lit< tt)
 
-  forbids-walk : {p q : ℕ} {lines : List (Line (List Spot))} → Lines s (keyOf forbidSection) (Names s plus) p q lines → stateAt s p ≡ Begin columnsSection
-      → (after : ℕ) × (after < needSection) × (stateAt s q ≡ Begin after)
+  forbids-walk : {p q : ℕ} {lines : List (Line (List Spot))} → Lines s (keyOf forbidSection) (Names s plus) p q lines
+      → stateAt s p ≡ Begin columnsSection → (after : ℕ) × (after < needSection) × (stateAt s q ≡ Begin after)
   forbids-walk lines e =
       lines-walk forbidSection (Names s plus) (λ before. before < needSection) (lit< tt) refl forbid-begins (lit< tt)
-      (λ p q spots names e. names-walk forbidSection plus refl (lit< tt) names e) 0 (lit< tt) lines e
+      (λ p q spots names e. names-walk forbidSection plus refl (lit< tt) names e) columnsSection (lit< tt) lines e
 
-  needs-walk : {p q : ℕ} {lines : List (Line Formula)} (before : ℕ) → Lines s (keyOf needSection) (Stands s (list ors) 8) p q lines → stateAt s p ≡ Begin before
-      → (after : ℕ) × Unit {0} × (stateAt s q ≡ Begin after)
+  needs-walk : {p q : ℕ} {lines : List (Line Formula)} (before : ℕ) → Lines s (keyOf needSection) (Stands s (list ors) 8) p q lines
+      → stateAt s p ≡ Begin before → (after : ℕ) × Unit {0} × (stateAt s q ≡ Begin after)
   needs-walk before lines e =
       lines-walk needSection (Stands s (list ors) 8) (λ before. Unit {0}) (lit< tt) refl (λ before h. refl) tt
       (λ p q v stands e. stands-walk 0 (lit≤ tt) stands e) before tt lines e
@@ -163,7 +165,7 @@ module _ (s : List ℕ) where
   -- ---- the number
 
   digit-walk : (p digits : ℕ) → digit (byteAt s p) ≡ true → stateAt s p ≡ Number digits
-      → stateAt s (p + 1) ≡ cond (eqb digits noDigit) (cond (eqb (byteAt s p) 48) (Number digitZero) (Number otherDigit)) (cond (eqb digits otherDigit) (Number twoDigits) Wrong)
+      → stateAt s (p + 1) ≡ onDigit digits (byteAt s p)
   digit-walk p digits d e =
       let b = byteAt s p in
       state-from p (Number digits) (inside s p (digit-not b 0 refl d)) e
@@ -177,7 +179,8 @@ module _ (s : List ℕ) where
       go true f = state-by s (p + 1) 10 (Number digitZero) f ended (lit< tt)
       go false f = state-by s (p + 1) 10 (Number otherDigit) f ended (lit< tt)
   number-walk (two-digits {p} d n d′) e ended =
-      let one : stateAt s (p + 1) ≡ Number otherDigit = digit-walk p noDigit d e ∙ cond-fails (eqb (byteAt s p) 48) (Number digitZero) (Number otherDigit) (ne-eqb (byteAt s p) 48 n) in
+      let one : stateAt s (p + 1) ≡ Number otherDigit =
+      digit-walk p noDigit d e ∙ cond-fails (eqb (byteAt s p) 48) (Number digitZero) (Number otherDigit) (ne-eqb (byteAt s p) 48 n) in
       let two : stateAt s (p + 1 + 1) ≡ Number twoDigits = digit-walk (p + 1) otherDigit d′ one in
       let place : p + 1 + 1 ≡ p + 2 = omega arith in
       state-by s (p + 2) 10 (Number twoDigits) (subst (λ (q : ℕ). stateAt s q ≡ Number twoDigits) place two) ended (lit< tt)
@@ -190,7 +193,8 @@ module _ (s : List ℕ) where
   form-done (sheet, t) =
       let columns : stateAt s 8 ≡ Name columnsSection 0 0 = key-walk 7 columnsSection 0 0 refl (t .columnsSaid) refl in
       let first-line : stateAt s (t .columnsTo + 1) ≡ Begin columnsSection =
-      behind-by columnsSection 0 (t .columnsTo) lineEnd (names-walk columnsSection comma refl (lit< tt) (t .columns) columns) (t .columnsEnd) (lit< tt) in
+      behind-by columnsSection 0 (t .columnsTo) lineEnd (names-walk columnsSection comma refl (lit< tt) (t .columns) columns)
+      (t .columnsEnd) (lit< tt) in
       let forbids = forbids-walk (t .forbids) first-line in
       let needs = needs-walk (forbids .0) (t .needs) (forbids .2) in
       let number = line-walk endSection (needs .0) (t .endFrom) (lit< tt) refl (t .endSaid) (needs .2) in

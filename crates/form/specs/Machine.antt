@@ -1,4 +1,5 @@
--- The machine that takes a text byte by byte: which state follows a state and a byte.
+-- The machine that takes a text byte by byte: which state follows a state and a byte. The contracts of the machine cite it; that of form speaks of
+-- the form alone.
 use Prim.{Unit}
 use mathlib.Core.Bool.{Bool, false, cond, _||_}
 use mathlib.Core.List.{List, [], _∷_}
@@ -54,7 +55,9 @@ twoDigits = 3
 
 -- the key of a section's lines
 abbrev pub keyOf : ℕ → List ℕ
-keyOf section = cond (eqb section columnsSection) columnsKey (cond (eqb section forbidSection) forbidKey (cond (eqb section needSection) needKey endKey))
+keyOf section =
+    cond (eqb section columnsSection) columnsKey
+    (cond (eqb section forbidSection) forbidKey (cond (eqb section needSection) needKey endKey))
 
 -- behind a key: an item or the number must come
 abbrev pub valueOf : ℕ → State
@@ -64,18 +67,21 @@ valueOf section = cond (ltb section endSection) (Name section 0 0) (Number noDig
 abbrev pub along : List ℕ → ℕ → ℕ → ℕ → State
 along key section k b = cond (eqb b (getD key k 0)) (cond (ltb (suc k) (length key)) (Key section (suc k)) (valueOf section)) Wrong
 
+-- k bytes of a section's key stand, and the next one comes
 abbrev pub inKey : ℕ → ℕ → ℕ → State
 inKey section = along (keyOf section) section
 
 -- at the beginning of a line f, n or e may come; behind a need line no f
 abbrev pub atLine : ℕ → ℕ → State
 atLine section b =
-    cond (eqb b 102) (cond (ltb section needSection) (Key forbidSection 1) Wrong) (cond (eqb b 110) (Key needSection 1) (cond (eqb b 101) (Key endSection 1) Wrong))
+    cond (eqb b 102) (cond (ltb section needSection) (Key forbidSection 1) Wrong)
+    (cond (eqb b 110) (Key needSection 1) (cond (eqb b 101) (Key endSection 1) Wrong))
 
 -- the sign joins the items of a section
 abbrev pub joining : ℕ → ℕ → Bool
 joining section b =
-    cond (eqb b comma) (eqb section columnsSection) (cond (eqb b plus) (eqb section forbidSection) (cond (eqb b ampersand || eqb b bar) (eqb section needSection) false))
+    cond (eqb b comma) (eqb section columnsSection)
+    (cond (eqb b plus) (eqb section forbidSection) (cond (eqb b ampersand || eqb b bar) (eqb section needSection) false))
 
 -- where an item must come
 abbrev pub atItem : ℕ → ℕ → ℕ → State
@@ -105,11 +111,15 @@ nameOn section zero opened b = atItem section opened b
 nameOn section (suc n) opened b =
     cond (inName b) (cond (ltb (suc n) mostNameBytes) (Name section (suc (suc n)) opened) Wrong) (behindItem section opened b)
 
+-- a digit behind what stands of the number; two digits never start with 0
+abbrev pub onDigit : ℕ → ℕ → State
+onDigit digits b =
+    cond (eqb digits noDigit) (cond (eqb b 48) (Number digitZero) (Number otherDigit))
+    (cond (eqb digits otherDigit) (Number twoDigits) Wrong)
+
 -- in the end line's number
 abbrev pub inNumber : ℕ → ℕ → State
-inNumber digits b =
-    cond (eqb b lineEnd) (cond (eqb digits noDigit) Wrong Done)
-    (cond (digit b) (cond (eqb digits noDigit) (cond (eqb b 48) (Number digitZero) (Number otherDigit)) (cond (eqb digits otherDigit) (Number twoDigits) Wrong)) Wrong)
+inNumber digits b = cond (eqb b lineEnd) (cond (eqb digits noDigit) Wrong Done) (cond (digit b) (onDigit digits b) Wrong)
 
 -- the state behind one more byte
 abbrev pub step : State → ℕ → State

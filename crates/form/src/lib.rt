@@ -1,4 +1,4 @@
-// Whether a text is of the form of a job text, and else the place where it stops being so.
+// Whether a text is of the form of a job text, and else the place where it stops being so. What is read later is only read of texts of the form.
 use machine::State;
 
 mod machine; // machine.rt: the machine that takes a text byte by byte

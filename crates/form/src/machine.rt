@@ -1,4 +1,5 @@
-// A machine that takes a text byte by byte. Its state is what the bytes so far say about the bytes that may come.
+// A machine that takes a text byte by byte, so that the byte at which it goes wrong is the place where the text stops being of the form. Its state is
+// what the bytes so far say about the bytes that may come.
 use naming::signs::LINE_END;
 use naming::signs::digit;
 use naming::signs::in_name;
@@ -24,12 +25,21 @@ const MOST_NAME_BYTES: usize = 12;
 // "Brackets nested at most 8."
 const MOST_BRACKETS: usize = 8;
 
+// What stands of the end line's number.
+const NO_DIGIT: usize = 0;
+
+const DIGIT_ZERO: usize = 1;
+
+const OTHER_DIGIT: usize = 2;
+
+const TWO_DIGITS: usize = 3;
+
 pub enum State {
     Key(usize, usize), // section, bytes of its key that stand
     Begin(usize), // a line begins, behind one of this section
     Name(usize, usize, usize), // section, bytes of a name that stand, open brackets. With 0 bytes a name or a bracket must come
     Closed(usize), // a closing bracket stands; brackets still open
-    Number(usize), // what stands of the number: 0 nothing, 1 the digit 0, 2 another digit, 3 two digits
+    Number(usize), // what stands of the end line's number
     Done, // the last line has ended
     Wrong, // no byte that follows can help
 }
@@ -50,7 +60,7 @@ pub fn step(state: State, byte: u8) -> State
     }
 }
 
-// So many bytes of a key stand.
+// So many bytes of a section's key stand.
 fn in_key(section: usize, k: usize, byte: u8) -> State
     requires { ⌜ k < length (keyOf section) ⌝ }
     ensures { λ r. ⌜ r ≡ inKey section k byte ⌝ }
@@ -88,7 +98,7 @@ fn value(section: usize) -> State
     if section < END {
         State::Name(section, 0, 0)
     } else {
-        State::Number(0)
+        State::Number(NO_DIGIT)
     }
 }
 
@@ -112,7 +122,7 @@ fn at_line(section: usize, byte: u8) -> State
     State::Wrong
 }
 
-// So many bytes of a name stand.
+// So many bytes of a name stand. With none a name or a bracket must come, else another byte of the name may come or its end.
 fn name_on(section: usize, length: usize, opened: usize, byte: u8) -> State
     ensures { λ r. ⌜ r ≡ nameOn section length opened byte ⌝ }
 {
@@ -171,12 +181,12 @@ fn behind_item(section: usize, opened: usize, byte: u8) -> State
     State::Wrong
 }
 
-// Two digits never start with 0.
+// The end line's number: one or two digits, and two never start with 0.
 fn in_number(digits: usize, byte: u8) -> State
     ensures { λ r. ⌜ r ≡ inNumber digits byte ⌝ }
 {
     if byte == LINE_END {
-        return if digits == 0 {
+        return if digits == NO_DIGIT {
             State::Wrong
         } else {
             State::Done
@@ -185,15 +195,15 @@ fn in_number(digits: usize, byte: u8) -> State
     if !digit(byte) {
         return State::Wrong;
     }
-    if digits == 0 {
+    if digits == NO_DIGIT {
         return if byte == b'0' {
-            State::Number(1)
+            State::Number(DIGIT_ZERO)
         } else {
-            State::Number(2)
+            State::Number(OTHER_DIGIT)
         };
     }
-    if digits == 2 {
-        return State::Number(3);
+    if digits == OTHER_DIGIT {
+        return State::Number(TWO_DIGITS);
     }
     State::Wrong
 }

@@ -1,4 +1,4 @@
--- The marks of a formula, and how many they are. Assumes nothing.
+-- The marks of a formula, and how many they are, so that a reader finds room for them. Assumes nothing.
 use mathlib.Core.Path.{_≡_, refl, ap}
 use mathlib.Core.List.{List, [], _∷_, _++_}
 use Prim.Native.Nat.{ℕ, _+_, _<_, _≤_}

@@ -1,4 +1,4 @@
--- An item in brackets, and one that is a name. Assumes nothing.
+-- What the reader of an item finds and leaves: an or-list in brackets, or a name. Assumes nothing.
 use mathlib.Core.Path.{_≡_, refl, ap, _∙_}
 use mathlib.Core.List.{List, [], _∷_, _++_}
 use Prim.Native.Nat.{ℕ, _+_, _<_, _≤_}

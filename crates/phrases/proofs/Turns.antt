@@ -106,7 +106,8 @@ module _ {s : List ℕ} {j : Join} where
         wrote = λ old x. x;
       }
 
-  module _ {at marked place₀ count₀ place count : ℕ} {marks₀ marks : List ℕ} (t : ListSoFar s j at marked place₀ count₀ marks₀ place count marks) where
+  module _ {at marked place₀ count₀ place count : ℕ} {marks₀ marks : List ℕ}
+      (t : ListSoFar s j at marked place₀ count₀ marks₀ place count marks) where
     -- behind the join's sign another operand stands, with room for its marks
     pub turn-asks : byteAt s place ≡ signOf j → Readable s (operand j) (place + 1) count (length marks)
     turn-asks e =

@@ -57,7 +57,16 @@ abbrev and-list-claims : ℕ → and-list-lts.Claims
 and-list-claims t = (item-below t, item.Post, byte-reads.Asked, byte-reads.Learnt)
 
 abbrev item-claims : ℕ → item-lts.Claims
-item-claims t = (byte-reads.Asked, byte-reads.Learnt, or-list-below t, or-list.Post, column-in-reads.Asked, column-in-reads.Learnt, name-end-reads.Asked, name-end-reads.Learnt)
+item-claims t = (
+  byte-reads.Asked,
+  byte-reads.Learnt,
+  or-list-below t,
+  or-list.Post,
+  column-in-reads.Asked,
+  column-in-reads.Learnt,
+  name-end-reads.Asked,
+  name-end-reads.Learnt,
+)
 
 abbrev or-list-claims : ℕ → or-list-lts.Claims
 or-list-claims t = (and-list-below t, and-list.Post, byte-reads.Asked, byte-reads.Learnt)
@@ -75,14 +84,16 @@ AndSign t = and-list-lts.Then1 (and-list-claims t) (and-list-at t) and-list.Post
 abbrev AndOperand : ℕ → Type 0
 AndOperand t = and-list-lts.After-slice-known3 (and-list-claims t) (and-list-at t) and-list.Post and-list-Inv-loop and-list-μ-loop
 
-and-list-sign : (t : ℕ) (c : AndSign t) → byteAt (c .before .before .before .before .before .before .before .before .before .args .text .now) (c .before .before .loop .place) ≡ ampersand
+and-list-sign : (t : ℕ) (c : AndSign t) → let s = c .before .before .before .before .before .before .before .before .before in
+    byteAt (s .args .text .now) (c .before .before .loop .place) ≡ ampersand
 and-list-sign t c = sym (c .before .byte .ensures) ∙ c .if1 .taken
 
 and-list-room : (t : ℕ) (c : AndOperand t) → let x = c .before .before .item2 in
     (x .result .marked < length (x .last .1 .1 .0)) × (c .before .before .before .before .before .before .loop .place < x .result .at)
 and-list-room t c =
     let x = c .before .before .item2 in
-    turn-room (c .before .before .before .before .before .before .loop .inv) (and-list-sign t (c .before .before .before .before)) (x .ensures) (x .kept .1 .1 .0)
+    let l = c .before .before .before .before .before .before .loop in
+    turn-room (l .inv) (and-list-sign t (c .before .before .before .before)) (x .ensures) (x .kept .1 .1 .0)
 
 and-list-item-requires : (t : ℕ) → and-list-lts.Need-item-requires (and-list-claims t) (and-list-at t) and-list.Post and-list-Inv-loop and-list-μ-loop
 and-list-item-requires t c κs =
@@ -102,39 +113,51 @@ and-list-add-item t c =
     let s = c .before .before .before .before .before .before .before .before .before in
     omega (arith, sign-within (s .args .text .now) (c .before .before .loop .place) ands (and-list-sign t c), s .good)
 
-and-list-item-requires-2 : (t : ℕ) → and-list-lts.Need-item-requires-2 (and-list-claims t) (and-list-at t) and-list.Post and-list-Inv-loop and-list-μ-loop
+and-list-item-requires-2 : (t : ℕ)
+    → and-list-lts.Need-item-requires-2 (and-list-claims t) (and-list-at t) and-list.Post and-list-Inv-loop and-list-μ-loop
 and-list-item-requires-2 t c κs =
     let l = c .before .before .before .loop in
-    (omega (arith, c .before .before .before .before .before .before .before .before .before .before .pre .0, l .inv .forward), turn-asks (l .inv) (and-list-sign t (c .before)))
+    let s = c .before .before .before .before .before .before .before .before .before .before in
+    (omega (arith, s .pre .0, l .inv .forward), turn-asks (l .inv) (and-list-sign t (c .before)))
 
 and-list-mul-marks : (t : ℕ) → and-list-lts.Need-mul-marks (and-list-claims t) (and-list-at t) and-list.Post and-list-Inv-loop and-list-μ-loop
-and-list-mul-marks t c = omega (arith, and-list-room t c, c .before .before .before .before .before .before .before .before .before .before .before .before .before .good)
+and-list-mul-marks t c =
+    let s = c .before .before .before .before .before .before .before .before .before .before .before .before .before in
+    omega (arith, and-list-room t c, s .good)
 
-and-list-slice-write-marks : (t : ℕ) → and-list-lts.Need-slice-write-marks (and-list-claims t) (and-list-at t) and-list.Post and-list-Inv-loop and-list-μ-loop
+and-list-slice-write-marks : (t : ℕ)
+    → and-list-lts.Need-slice-write-marks (and-list-claims t) (and-list-at t) and-list.Post and-list-Inv-loop and-list-μ-loop
 and-list-slice-write-marks t c = omega (arith, and-list-room t c)
 
 and-list-add-count : (t : ℕ) → and-list-lts.Need-add-count (and-list-claims t) (and-list-at t) and-list.Post and-list-Inv-loop and-list-μ-loop
-and-list-add-count t c = omega (arith, and-list-room t c, c .before .before .before .before .before .before .before .before .before .before .before .before .before .good)
+and-list-add-count t c =
+    let s = c .before .before .before .before .before .before .before .before .before .before .before .before .before in
+    omega (arith, and-list-room t c, s .good)
 
 and-list-loop-less : (t : ℕ) → and-list-lts.Need-loop-less (and-list-claims t) (and-list-at t) and-list.Post and-list-Inv-loop and-list-μ-loop
 and-list-loop-less t c =
-    let near = sign-within (c .before .before .before .before .before .before .before .before .before .before .before .before .before .args .text .now) (c .before .before .before .before .before .before .loop .place) ands (and-list-sign t (c .before .before .before .before)) in
+    let s = c .before .before .before .before .before .before .before .before .before .before .before .before .before in
+    let l = c .before .before .before .before .before .before .loop in
+    let near = sign-within (s .args .text .now) (l .place) ands (and-list-sign t (c .before .before .before .before)) in
     omega (arith, and-list-room t c, near)
 
 and-list-loop-again : (t : ℕ) → and-list-lts.Need-loop-again (and-list-claims t) (and-list-at t) and-list.Post and-list-Inv-loop and-list-μ-loop
 and-list-loop-again t c =
     let x = c .before .before .item2 in
-    turn-again (c .before .before .before .before .before .before .loop .inv) (and-list-sign t (c .before .before .before .before)) (x .ensures) (x .kept .1 .1 .0)
+    let l = c .before .before .before .before .before .before .loop in
+    turn-again (l .inv) (and-list-sign t (c .before .before .before .before)) (x .ensures) (x .kept .1 .1 .0)
 
 and-list-same-length : (t : ℕ) → and-list-lts.Need-same-length (and-list-claims t) (and-list-at t) and-list.Post and-list-Inv-loop and-list-μ-loop
 and-list-same-length t c = search needs
 
 and-list-returns : (t : ℕ) → and-list-lts.Need-returns (and-list-claims t) (and-list-at t) and-list.Post and-list-Inv-loop and-list-μ-loop
 and-list-returns t c =
-    turns-done (c .before .before .loop .inv) (λ h. c .if1 .left (c .before .byte .ensures ∙ h)) (c .before .before .before .before .before .item .ensures)
+    let first = c .before .before .before .before .before .item in
+    turns-done (c .before .before .loop .inv) (λ h. c .if1 .left (c .before .byte .ensures ∙ h)) (first .ensures)
 
 -- where an item in brackets begins
-item-sign : (t : ℕ) (c : item-lts.Then1 (item-claims t) (item-at t) item.Post) → let a = c .before .before .before .before .args in byteAt (a .text .now) (a .at) ≡ bracketOpen
+item-sign : (t : ℕ) (c : item-lts.Then1 (item-claims t) (item-at t) item.Post) → let a = c .before .before .before .before .args in
+    byteAt (a .text .now) (a .at) ≡ bracketOpen
 item-sign t c = sym (c .before .byte .ensures) ∙ c .if1 .taken
 
 item-byte-requires : (t : ℕ) → item-lts.Need-byte-requires (item-claims t) (item-at t) item.Post
@@ -155,7 +178,8 @@ item-or-list-requires t c κs =
 item-add-t8 : (t : ℕ) → item-lts.Need-add-t8 (item-claims t) (item-at t) item.Post
 item-add-t8 t c =
     let s = c .before .before .before .before .before .before .before .before .before in
-    omega (arith, bracket-ends (item-sign t (c .before .before .before .before .before)) (c .before .before .before .or-list .ensures) (s .pre .1), s .good)
+    let inner = c .before .before .before .or-list in
+    omega (arith, bracket-ends (item-sign t (c .before .before .before .before .before)) (inner .ensures) (s .pre .1), s .good)
 
 item-same-length : (t : ℕ) → item-lts.Need-same-length (item-claims t) (item-at t) item.Post
 item-same-length t c = search needs
@@ -183,7 +207,9 @@ item-same-length-2 t c = search needs
 
 item-returns-2 : (t : ℕ) → item-lts.Need-returns-2 (item-claims t) (item-at t) item.Post
 item-returns-2 t c =
-    name-done (λ h. c .before .before .if1 .left (c .before .before .before .byte .ensures ∙ h)) (item-room (c .before .before .before .before .before .before .pre .1)) (c .before .column-in .ensures .1) (c .name-end .ensures)
+    let s = c .before .before .before .before .before .before in
+    name-done (λ h. c .before .before .if1 .left (c .before .before .before .byte .ensures ∙ h)) (item-room (s .pre .1)) (c .before .column-in .ensures .1)
+    (c .name-end .ensures)
 
 abbrev or-list-Inv-loop : or-list-lts.InvT-loop
 or-list-Inv-loop text at marks₀ marked place₀ count₀ marks place count = ListSoFar text ors at marked place₀ count₀ marks₀ place count marks
@@ -198,16 +224,19 @@ OrSign t = or-list-lts.Then1 (or-list-claims t) (or-list-at t) or-list.Post or-l
 abbrev OrOperand : ℕ → Type 0
 OrOperand t = or-list-lts.After-slice-known3 (or-list-claims t) (or-list-at t) or-list.Post or-list-Inv-loop or-list-μ-loop
 
-or-list-sign : (t : ℕ) (c : OrSign t) → byteAt (c .before .before .before .before .before .before .before .before .before .args .text .now) (c .before .before .loop .place) ≡ bar
+or-list-sign : (t : ℕ) (c : OrSign t) → let s = c .before .before .before .before .before .before .before .before .before in
+    byteAt (s .args .text .now) (c .before .before .loop .place) ≡ bar
 or-list-sign t c = sym (c .before .byte .ensures) ∙ c .if1 .taken
 
 or-list-room : (t : ℕ) (c : OrOperand t) → let x = c .before .before .and-list2 in
     (x .result .marked < length (x .last .1 .1 .0)) × (c .before .before .before .before .before .before .loop .place < x .result .at)
 or-list-room t c =
     let x = c .before .before .and-list2 in
-    turn-room (c .before .before .before .before .before .before .loop .inv) (or-list-sign t (c .before .before .before .before)) (x .ensures) (x .kept .1 .1 .0)
+    let l = c .before .before .before .before .before .before .loop in
+    turn-room (l .inv) (or-list-sign t (c .before .before .before .before)) (x .ensures) (x .kept .1 .1 .0)
 
-or-list-and-list-requires : (t : ℕ) → or-list-lts.Need-and-list-requires (or-list-claims t) (or-list-at t) or-list.Post or-list-Inv-loop or-list-μ-loop
+or-list-and-list-requires : (t : ℕ)
+    → or-list-lts.Need-and-list-requires (or-list-claims t) (or-list-at t) or-list.Post or-list-Inv-loop or-list-μ-loop
 or-list-and-list-requires t c κs =
     let s = c .before .before .before in
     (omega (arith, s .pre .0), first-asks (s .pre .1))
@@ -225,36 +254,47 @@ or-list-add-and-list t c =
     let s = c .before .before .before .before .before .before .before .before .before in
     omega (arith, sign-within (s .args .text .now) (c .before .before .loop .place) ors (or-list-sign t c), s .good)
 
-or-list-and-list-requires-2 : (t : ℕ) → or-list-lts.Need-and-list-requires-2 (or-list-claims t) (or-list-at t) or-list.Post or-list-Inv-loop or-list-μ-loop
+or-list-and-list-requires-2 : (t : ℕ)
+    → or-list-lts.Need-and-list-requires-2 (or-list-claims t) (or-list-at t) or-list.Post or-list-Inv-loop or-list-μ-loop
 or-list-and-list-requires-2 t c κs =
     let l = c .before .before .before .loop in
-    (omega (arith, c .before .before .before .before .before .before .before .before .before .before .pre .0, l .inv .forward), turn-asks (l .inv) (or-list-sign t (c .before)))
+    let s = c .before .before .before .before .before .before .before .before .before .before in
+    (omega (arith, s .pre .0, l .inv .forward), turn-asks (l .inv) (or-list-sign t (c .before)))
 
 or-list-mul-marks : (t : ℕ) → or-list-lts.Need-mul-marks (or-list-claims t) (or-list-at t) or-list.Post or-list-Inv-loop or-list-μ-loop
-or-list-mul-marks t c = omega (arith, or-list-room t c, c .before .before .before .before .before .before .before .before .before .before .before .before .before .good)
+or-list-mul-marks t c =
+    let s = c .before .before .before .before .before .before .before .before .before .before .before .before .before in
+    omega (arith, or-list-room t c, s .good)
 
-or-list-slice-write-marks : (t : ℕ) → or-list-lts.Need-slice-write-marks (or-list-claims t) (or-list-at t) or-list.Post or-list-Inv-loop or-list-μ-loop
+or-list-slice-write-marks : (t : ℕ)
+    → or-list-lts.Need-slice-write-marks (or-list-claims t) (or-list-at t) or-list.Post or-list-Inv-loop or-list-μ-loop
 or-list-slice-write-marks t c = omega (arith, or-list-room t c)
 
 or-list-add-count : (t : ℕ) → or-list-lts.Need-add-count (or-list-claims t) (or-list-at t) or-list.Post or-list-Inv-loop or-list-μ-loop
-or-list-add-count t c = omega (arith, or-list-room t c, c .before .before .before .before .before .before .before .before .before .before .before .before .before .good)
+or-list-add-count t c =
+    let s = c .before .before .before .before .before .before .before .before .before .before .before .before .before in
+    omega (arith, or-list-room t c, s .good)
 
 or-list-loop-less : (t : ℕ) → or-list-lts.Need-loop-less (or-list-claims t) (or-list-at t) or-list.Post or-list-Inv-loop or-list-μ-loop
 or-list-loop-less t c =
-    let near = sign-within (c .before .before .before .before .before .before .before .before .before .before .before .before .before .args .text .now) (c .before .before .before .before .before .before .loop .place) ors (or-list-sign t (c .before .before .before .before)) in
+    let s = c .before .before .before .before .before .before .before .before .before .before .before .before .before in
+    let l = c .before .before .before .before .before .before .loop in
+    let near = sign-within (s .args .text .now) (l .place) ors (or-list-sign t (c .before .before .before .before)) in
     omega (arith, or-list-room t c, near)
 
 or-list-loop-again : (t : ℕ) → or-list-lts.Need-loop-again (or-list-claims t) (or-list-at t) or-list.Post or-list-Inv-loop or-list-μ-loop
 or-list-loop-again t c =
     let x = c .before .before .and-list2 in
-    turn-again (c .before .before .before .before .before .before .loop .inv) (or-list-sign t (c .before .before .before .before)) (x .ensures) (x .kept .1 .1 .0)
+    let l = c .before .before .before .before .before .before .loop in
+    turn-again (l .inv) (or-list-sign t (c .before .before .before .before)) (x .ensures) (x .kept .1 .1 .0)
 
 or-list-same-length : (t : ℕ) → or-list-lts.Need-same-length (or-list-claims t) (or-list-at t) or-list.Post or-list-Inv-loop or-list-μ-loop
 or-list-same-length t c = search needs
 
 or-list-returns : (t : ℕ) → or-list-lts.Need-returns (or-list-claims t) (or-list-at t) or-list.Post or-list-Inv-loop or-list-μ-loop
 or-list-returns t c =
-    turns-done (c .before .before .loop .inv) (λ h. c .if1 .left (c .before .byte .ensures ∙ h)) (c .before .before .before .before .before .and-list .ensures)
+    let first = c .before .before .before .before .before .and-list in
+    turns-done (c .before .before .loop .inv) (λ h. c .if1 .left (c .before .byte .ensures ∙ h)) (first .ensures)
 
 pub +and-list+item+or-list-spec : {M : Type 1} → statement M
 +and-list+item+or-list-spec = close μ-and-list μ-item μ-or-list (λ t. and-list-lts.spec (and-list-claims t) (and-list-at t)

@@ -39,7 +39,8 @@ add-t6 c = search needs
 returns-4 : tie.Need-returns-4
 returns-4 c =
     let a = c .before .before .before .before .before .args in
-    rw (bracket-came (c .before .before), eq-eqb (a .section) needSection (c .before .if3 .left), lt-ltb (a .opened) 8 (c .if4 .taken), add-one (a .opened))
+    let need = eq-eqb (a .section) needSection (c .before .if3 .left) in
+    rw (bracket-came (c .before .before), need, lt-ltb (a .opened) 8 (c .if4 .taken), add-one (a .opened))
 
 returns-5 : tie.Need-returns-5
 returns-5 c =

@@ -1,11 +1,8 @@
 -- `form::machine::in_number` meets its contract. Assumes nothing.
 use mathlib.Core.Path.{_≡_, sym}
-use mathlib.Core.Bool.{cond}
-use lib.Dec.{eqb}
 use borrow.Author.Needs.{needs}
 use borrow.Author.Tests.{eq-eqb, ne-eqb, not-true, not-false}
-use Rattle.form.specs.declared.machine.State.the-variants.{Number, Wrong}
-use Rattle.form.specs.Machine.{noDigit, digitZero, otherDigit, twoDigits, inNumber}
+use Rattle.form.specs.Machine.{noDigit, otherDigit, onDigit, inNumber}
 use Rattle.form.proofs.machine.in_number.Statement.{statement}
 use Rattle.form.proofs.machine.in_number.Tie as tie
 use Rattle.form.proofs.machine.in_number.Reads as reads
@@ -14,8 +11,7 @@ use Rattle.naming.proofs.signs.digit.Reads as digit-reads
 
 -- what a digit leads to
 digit-came : (d : lts.Else3 (digit-reads.Asked, digit-reads.Learnt) reads.Pre reads.Post) → let a = d .before .before .before .args in
-    inNumber (a .digits) (a .byte)
-    ≡ cond (eqb (a .digits) noDigit) (cond (eqb (a .byte) 48) (Number digitZero) (Number otherDigit)) (cond (eqb (a .digits) otherDigit) (Number twoDigits) Wrong)
+    inNumber (a .digits) (a .byte) ≡ onDigit (a .digits) (a .byte)
 digit-came d =
     rw (
       ne-eqb (d .before .before .before .args .byte) 10 (d .before .before .if1 .left),
