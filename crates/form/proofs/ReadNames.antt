@@ -14,7 +14,7 @@ use Rattle.rules.proofs.Signs.{letter-named}
 use Rattle.naming.proofs.Walks.{from-more}
 use Rattle.form.specs.declared.machine.State.{State}
 use Rattle.form.specs.declared.machine.State.the-variants.{Begin, Name, Done, Wrong}
-use Rattle.form.specs.Machine.{needSection, joining, behindItem, step, run, stateAt}
+use Rattle.form.specs.Machine.{needSection, joining, behindItem, step, stateAt}
 use Rattle.form.proofs.Runs.{cond-fails}
 use Rattle.form.proofs.Living.{LeadsToEnd, not-name, alive, within, goes, must, forks}
 

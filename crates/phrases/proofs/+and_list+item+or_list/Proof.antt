@@ -208,8 +208,8 @@ item-same-length-2 t c = search needs
 item-returns-2 : (t : ℕ) → item-lts.Need-returns-2 (item-claims t) (item-at t) item.Post
 item-returns-2 t c =
     let s = c .before .before .before .before .before .before in
-    name-done (λ h. c .before .before .if1 .left (c .before .before .before .byte .ensures ∙ h)) (item-room (s .pre .1)) (c .before .column-in .ensures .1)
-    (c .name-end .ensures)
+    name-done (λ h. c .before .before .if1 .left (c .before .before .before .byte .ensures ∙ h)) (item-room (s .pre .1))
+    (c .before .column-in .ensures .1) (c .name-end .ensures)
 
 abbrev or-list-Inv-loop : or-list-lts.InvT-loop
 or-list-Inv-loop text at marks₀ marked place₀ count₀ marks place count = ListSoFar text ors at marked place₀ count₀ marks₀ place count marks
