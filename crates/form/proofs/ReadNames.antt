@@ -9,7 +9,7 @@ use lib.Dec.{ltb, eqb, lit≤}
 use lib.ListN.{length}
 use borrow.Author.Tests.{ltb-true, eqb-true, eqb-false}
 use Rattle.rules.specs.Signs.{byteAt, letter, inName, lineEnd, bracketOpen, bracketClose}
-use Rattle.rules.specs.Names.{Name as NameAt, Names, spot, last-name, more-names}
+use Rattle.rules.specs.Names.{Name as NameAt, Names, spot, last-name, more-names, mostNameBytes}
 use Rattle.rules.proofs.Signs.{letter-named}
 use Rattle.naming.proofs.Walks.{from-more}
 use Rattle.form.specs.declared.machine.State.{State}
@@ -44,19 +44,19 @@ module _ {s : List ℕ} (led : LeadsToEnd s) where
 
   -- another byte of the name comes, or the name has ended
   name-step : (section opened n i : ℕ) → stateAt s i ≡ Name section (suc n) opened
-      → ((inName (byteAt s i) ≡ true) × (suc n < 12) × (stateAt s (i + 1) ≡ Name section (suc (suc n)) opened))
+      → ((inName (byteAt s i) ≡ true) × (suc n < mostNameBytes) × (stateAt s (i + 1) ≡ Name section (suc (suc n)) opened))
       ⊎ ((inName (byteAt s i) ≡ false) × (ItemEnds s section opened i))
   name-step section opened n i e =
       ⊎-elim
-      (λ on. let room = must led (i + 1) (ltb (suc n) 12) _ (on .1) in inl (on .0, ltb-true (suc n) 12 (room .0), room .1))
+      (λ on. let room = must led (i + 1) (ltb (suc n) mostNameBytes) _ (on .1) in inl (on .0, ltb-true (suc n) mostNameBytes (room .0), room .1))
       (λ over. inr (over .0, (within led i (Name section (suc n) opened) not-name e, over .1)))
       (forks led (i + 1) (inName (byteAt s i)) _ _ (goes led i (Name section (suc n) opened) not-name e))
 
   named-one : (p : ℕ) → letter (byteAt s p) ≡ true → NamedTo s p (p + 1)
   named-one p l = from-more (λ (j : ℕ). inName (byteAt s j) ≡ true) (λ j h g. absurd (omega arith)) (letter-named (byteAt s p) l)
 
-  name-ends : (section opened p n : ℕ) → suc n ≤ 12 → letter (byteAt s p) ≡ true → NamedTo s p (p + suc n) → inName (byteAt s (p + suc n)) ≡ false
-      → ItemEnds s section opened (p + suc n) → NameFrom s section opened p
+  name-ends : (section opened p n : ℕ) → suc n ≤ mostNameBytes → letter (byteAt s p) ≡ true → NamedTo s p (p + suc n)
+      → inName (byteAt s (p + suc n)) ≡ false → ItemEnds s section opened (p + suc n) → NameFrom s section opened p
   name-ends section opened p n g l so ends past = (
     p + suc n,
     omega arith,
@@ -64,10 +64,10 @@ module _ {s : List ℕ} (led : LeadsToEnd s) where
     past,
   )
 
-  name-on : (left section opened p n : ℕ) → 12 ≤ n + left → suc n ≤ 12 → letter (byteAt s p) ≡ true → NamedTo s p (p + suc n)
-      → stateAt s (p + suc n) ≡ Name section (suc n) opened → NameFrom s section opened p
-  name-on zero section opened p n h g l so e = absurd (omega arith)
-  name-on (suc left) section opened p n h g l so e =
+  rest-of-name : (left section opened p n : ℕ) → mostNameBytes ≤ n + left → suc n ≤ mostNameBytes → letter (byteAt s p) ≡ true
+      → NamedTo s p (p + suc n) → stateAt s (p + suc n) ≡ Name section (suc n) opened → NameFrom s section opened p
+  rest-of-name zero section opened p n h g l so e = absurd (omega arith)
+  rest-of-name (suc left) section opened p n h g l so e =
       let i = p + suc n in
       let place : i + 1 ≡ p + suc (suc n) = omega arith in
       let to : stateAt s (i + 1) ≡ Name section (suc (suc n)) opened → stateAt s (p + suc (suc n)) ≡ Name section (suc (suc n)) opened =
@@ -75,13 +75,13 @@ module _ {s : List ℕ} (led : LeadsToEnd s) where
       ⊎-elim
       (λ on.
       let so′ = subst (NamedTo s p) place (from-more (λ (j : ℕ). inName (byteAt s j) ≡ true) so (on .0)) in
-      name-on left section opened p (suc n) (omega arith) (on .1) l so′ (to (on .2)))
+      rest-of-name left section opened p (suc n) (omega arith) (on .1) l so′ (to (on .2)))
       (λ over. name-ends section opened p n g l so (over .0) (over .1))
       (name-step section opened n i e)
 
   -- a name can be read behind its first letter
   pub read-name : (section opened p : ℕ) → letter (byteAt s p) ≡ true → stateAt s (p + 1) ≡ Name section 1 opened → NameFrom s section opened p
-  read-name section opened p l e = name-on 12 section opened p 0 (lit≤ tt) (lit≤ tt) l (named-one p l) e
+  read-name section opened p l e = rest-of-name mostNameBytes section opened p 0 (lit≤ tt) (lit≤ tt) l (named-one p l) e
 
   -- ---- lists of names
 

@@ -30,6 +30,7 @@ use Rattle.rules.specs.Phrases.{
   next,
   name,
   bracketed,
+  mostBrackets,
 }
 use Rattle.form.specs.declared.machine.State.the-variants.{Name, Closed, Wrong}
 use Rattle.form.specs.Machine.{needSection, joining, stateAt}
@@ -41,7 +42,7 @@ use Rattle.form.proofs.ReadNames.{ItemEnds, ValueFrom, item-ends, read-
 -- a phrase of this kind from place p on; Ends says what is known of the byte behind it
 abbrev PhraseFrom : List ℕ → (ℕ → Type 0) → Kind → ℕ → ℕ → Type 0
 PhraseFrom s Ends kind opened p =
-    (q : ℕ) × (v : Formula) × (p < q) × Stands s kind (8 - opened) p q v × Ends (byteAt s q) × (ItemEnds s needSection opened q)
+    (q : ℕ) × (v : Formula) × (p < q) × Stands s kind (mostBrackets - opened) p q v × Ends (byteAt s q) × (ItemEnds s needSection opened q)
 
 -- such a phrase can be read wherever an item must come and fewer than n bytes are left
 abbrev CanRead : List ℕ → (ℕ → Type 0) → Kind → ℕ → Type 0
@@ -72,7 +73,8 @@ module _ {s : List ℕ} (led : LeadsToEnd s) where
     -- what follows the operands that are read, which say u
     abbrev RestFrom : ℕ → Formula → ℕ → Type 0
     RestFrom opened u r =
-        (q : ℕ) × (w : Formula) × (r ≤ q) × Stands s (rest j u) (8 - opened) r q w × EndsList (byteAt s q) × (ItemEnds s needSection opened q)
+        (q : ℕ) × (w : Formula) × (r ≤ q) × Stands s (rest j u) (mostBrackets - opened) r q w × EndsList (byteAt s q)
+        × (ItemEnds s needSection opened q)
 
     rest-next : (opened r : ℕ) (u : Formula) → byteAt s r ≡ signOf j → (one : PhraseFrom s Ends (operand j) opened (r + 1))
         → RestFrom opened (joinOf j u (one .1)) (one .0) → RestFrom opened u r
@@ -118,13 +120,13 @@ module _ {s : List ℕ} (led : LeadsToEnd s) where
       (λ over. absurd (alive led (q + 1) (must led (q + 1) (eqb b lineEnd) Wrong (over .1) .1)))
       (forks led (q + 1) (eqb b bracketClose) _ _ (past .1 ∙ cond-fails (joining needSection b) _ _ (joins-no-need b (ends .0 .1) (ends .1))))
 
-  read-bracket : (n p opened : ℕ) → CanRead s EndsOrs (list ors) n → length s < p + suc n → byteAt s p ≡ bracketOpen → opened < 8
+  read-bracket : (n p opened : ℕ) → CanRead s EndsOrs (list ors) n → length s < p + suc n → byteAt s p ≡ bracketOpen → opened < mostBrackets
       → stateAt s (p + 1) ≡ Name needSection 0 (suc opened) → PhraseFrom s EndsItem item opened p
   read-bracket n p opened read h signed room e =
       let inner = read (p + 1) (suc opened) (omega arith) e in
       let forward = inner .2 in
       let closed = bracket-closes opened (inner .0) (inner .4) (inner .5) in
-      let deep : suc (8 - suc opened) ≡ 8 - opened = omega arith in
+      let deep : suc (mostBrackets - suc opened) ≡ mostBrackets - opened = omega arith in
       let place = inner .0 + 1 in (
         place,
         inner .1,
@@ -146,8 +148,8 @@ module _ {s : List ℕ} (led : LeadsToEnd s) where
       (λ on. read-named p opened (on .0) (on .1))
       (λ over.
       let bracket = must led (p + 1) (eqb b bracketOpen) _ (over .1) in
-      let room = must led (p + 1) (ltb opened 8) _ (bracket .1) in
-      read-bracket n p opened read h (eqb-true b bracketOpen (bracket .0)) (ltb-true opened 8 (room .0)) (room .1))
+      let room = must led (p + 1) (ltb opened mostBrackets) _ (bracket .1) in
+      read-bracket n p opened read h (eqb-true b bracketOpen (bracket .0)) (ltb-true opened mostBrackets (room .0)) (room .1))
       (forks led (p + 1) (letter b) _ _ (goes led p (Name needSection 0 opened) not-name e))
 
   read-ors : (n : ℕ) → CanRead s EndsItem item n → CanRead s EndsOrs (list ors) n
@@ -160,7 +162,7 @@ module _ {s : List ℕ} (led : LeadsToEnd s) where
   -- ---- the line
 
   -- the value of a need line can be read
-  pub read-need : (p : ℕ) → stateAt s p ≡ Name needSection 0 0 → ValueFrom s needSection (Stands s (list ors) 8) p
+  pub read-need : (p : ℕ) → stateAt s p ≡ Name needSection 0 0 → ValueFrom s needSection (Stands s (list ors) mostBrackets) p
   read-need p e =
       let n = length s + 1 in
       let need = read-ors n (read-items n) p 0 (omega arith) e in

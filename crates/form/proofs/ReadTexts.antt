@@ -10,7 +10,7 @@ use lib.ListN.{length}
 use borrow.Author.Tests.{eqb-true, ne-eqb}
 use Rattle.rules.specs.Signs.{byteAt, Says, comma, plus, lineEnd}
 use Rattle.rules.specs.Names.{Names}
-use Rattle.rules.specs.Phrases.{list, ors, Stands}
+use Rattle.rules.specs.Phrases.{list, ors, Stands, mostBrackets}
 use Rattle.rules.specs.Texts.{HasForm}
 use Rattle.rules.proofs.Signs.{inside}
 use Rattle.form.specs.declared.machine.State.{State}
@@ -36,9 +36,9 @@ module _ {s : List ℕ} (led : LeadsToEnd s) where
       read-lines led forbidSection (Names s plus) (λ before. before < needSection) (lit< tt) refl forbid-begins (lit< tt) read-forbid-line
       (length s + 1) columnsSection p (omega arith) (lit< tt) e
 
-  read-needs : (before p : ℕ) → stateAt s p ≡ Begin before → LinesFrom s needSection (Stands s (list ors) 8) before p
+  read-needs : (before p : ℕ) → stateAt s p ≡ Begin before → LinesFrom s needSection (Stands s (list ors) mostBrackets) before p
   read-needs before p e =
-      read-lines led needSection (Stands s (list ors) 8) (λ before. Unit {0}) (lit< tt) refl (λ before h. refl) tt (read-need led)
+      read-lines led needSection (Stands s (list ors) mostBrackets) (λ before. Unit {0}) (lit< tt) refl (λ before h. refl) tt (read-need led)
       (length s + 1) before p (omega arith) tt e
 
   read-end-line : (after p : ℕ) → stateAt s p ≡ Begin after → (byteAt s p ≡ 102 → ⊥) → (byteAt s p ≡ 110 → ⊥)
@@ -57,7 +57,7 @@ module _ {s : List ℕ} (led : LeadsToEnd s) where
 
   -- no forbid line follows the needs
   no-forbid-left : {p : ℕ} (forbids : LinesFrom s forbidSection (Names s plus) columnsSection p)
-      (needs : LinesFrom s needSection (Stands s (list ors) 8) (forbids .3) (forbids .0))
+      (needs : LinesFrom s needSection (Stands s (list ors) mostBrackets) (forbids .3) (forbids .0))
       → byteAt s (needs .0) ≡ 102 → ⊥
   no-forbid-left forbids needs f =
       ⊎-elim

@@ -11,11 +11,13 @@ use lib.ListN.{length, getD, drop}
 use lib.Seq.{drop-cons}
 use borrow.Author.Tests.{lt-ltb, ne-eqb}
 use Rattle.rules.specs.Signs.{byteAt, lineEnd, comma, plus, ampersand, bar, bracketOpen, bracketClose, Says, letter, digit, inName}
-use Rattle.rules.specs.Names.{Name as NameAt, Names, Spot, last-name, more-names}
-use Rattle.rules.specs.Phrases.{Kind, item, list, rest, Join, ors, ands, operand, signOf, Formula, Stands, first, last, next, name, bracketed}
+use Rattle.rules.specs.Names.{Name as NameAt, Names, Spot, last-name, more-names, mostNameBytes}
+use Rattle.rules.specs.Phrases.{Kind, item, list, rest, Join, ors, ands, operand, signOf, Formula, mostBrackets}
+use Rattle.rules.specs.Phrases.{Stands, first, last, next, name, bracketed}
 use Rattle.rules.specs.Texts.{Line, Lines, no-line, one-line, Number as NumberAt, one-digit, two-digits, HasForm}
-use Rattle.rules.proofs.Signs.{inside, letter-named, named-inside, says-first}
+use Rattle.rules.proofs.Signs.{inside, named-inside, says-first}
 use Rattle.rules.proofs.Names.{name-some}
+use Rattle.naming.proofs.Walks.{name-begins}
 use Rattle.form.specs.declared.machine.State.{State}
 use Rattle.form.specs.declared.machine.State.the-variants.{Key, Begin, Name, Closed, Number, Done, Wrong}
 use Rattle.form.specs.Machine.{columnsSection, forbidSection, needSection, endSection, noDigit, digitZero, otherDigit, twoDigits, onDigit}
@@ -59,7 +61,7 @@ module _ (s : List ℕ) where
       → (n : ℕ) → p + suc n ≤ q → stateAt s (p + suc n) ≡ Name section (suc n) opened
   name-goes section opened p q here e zero h =
       let b = byteAt s p in
-      state-from p (Name section 0 opened) (named-inside s p (letter-named b (here .begins))) e
+      state-from p (Name section 0 opened) (named-inside s p (name-begins here)) e
       ∙ cond-holds (letter b) (Name section 1 opened) _ (here .begins)
   name-goes section opened p q here e (suc n) h =
       let i = p + suc n in
@@ -69,7 +71,7 @@ module _ (s : List ℕ) where
       let on : stateAt s (i + 1) ≡ Name section (suc (suc n)) opened =
       state-from i (Name section (suc n) opened) (named-inside s i named) (name-goes section opened p q here e n (omega arith))
       ∙ cond-holds (inName b) _ (behindItem section opened b) named
-      ∙ cond-holds (ltb (suc n) 12) (Name section (suc (suc n)) opened) Wrong (lt-ltb (suc n) 12 (omega arith)) in
+      ∙ cond-holds (ltb (suc n) mostNameBytes) (Name section (suc (suc n)) opened) Wrong (lt-ltb (suc n) mostNameBytes (omega arith)) in
       let place : i + 1 ≡ p + suc (suc n) = omega arith in
       subst (λ (q : ℕ). stateAt s q ≡ Name section (suc (suc n)) opened) place on
 
@@ -105,8 +107,8 @@ module _ (s : List ℕ) where
   sign-walk ors opened p h e = behind-by needSection opened p bar h e (lit< tt)
   sign-walk ands opened p h e = behind-by needSection opened p ampersand h e (lit< tt)
 
-  stands-walk : {kind : Kind} {deep p q : ℕ} {v : Formula} (opened : ℕ) → opened + deep ≤ 8 → Stands s kind deep p q v → Enters kind opened p
-      → Behind needSection opened q
+  stands-walk : {kind : Kind} {deep p q : ℕ} {v : Formula} (opened : ℕ) → opened + deep ≤ mostBrackets → Stands s kind deep p q v
+      → Enters kind opened p → Behind needSection opened q
   stands-walk opened h (first {j} {deep} {p} {r} {q} one more) e =
       stands-walk opened h more (stands-walk opened h one (enters-operand j opened p e))
   stands-walk opened h (last no-more) e = e
@@ -116,7 +118,7 @@ module _ (s : List ℕ) where
   stands-walk opened h (bracketed {deep} {p} {q} open-said inner close-said) e =
       let in-bracket : stateAt s (p + 1) ≡ Name needSection 0 (suc opened) =
       state-by s p bracketOpen (Name needSection 0 opened) e open-said (lit< tt)
-      ∙ cond-holds (ltb opened 8) (Name needSection 0 (suc opened)) Wrong (lt-ltb opened 8 (omega arith)) in
+      ∙ cond-holds (ltb opened mostBrackets) (Name needSection 0 (suc opened)) Wrong (lt-ltb opened mostBrackets (omega arith)) in
       let behind = stands-walk (suc opened) (omega arith) inner in-bracket in
       λ g. state-from (q + 1) (Closed opened) g (behind-by needSection (suc opened) q bracketClose behind close-said (lit< tt))
 
@@ -156,10 +158,10 @@ module _ (s : List ℕ) where
       lines-walk forbidSection (Names s plus) (λ before. before < needSection) (lit< tt) refl forbid-begins (lit< tt)
       (λ p q spots names e. names-walk forbidSection plus refl (lit< tt) names e) columnsSection (lit< tt) lines e
 
-  needs-walk : {p q : ℕ} {lines : List (Line Formula)} (before : ℕ) → Lines s (keyOf needSection) (Stands s (list ors) 8) p q lines
+  needs-walk : {p q : ℕ} {lines : List (Line Formula)} (before : ℕ) → Lines s (keyOf needSection) (Stands s (list ors) mostBrackets) p q lines
       → stateAt s p ≡ Begin before → (after : ℕ) × Unit {0} × (stateAt s q ≡ Begin after)
   needs-walk before lines e =
-      lines-walk needSection (Stands s (list ors) 8) (λ before. Unit {0}) (lit< tt) refl (λ before h. refl) tt
+      lines-walk needSection (Stands s (list ors) mostBrackets) (λ before. Unit {0}) (lit< tt) refl (λ before h. refl) tt
       (λ p q v stands e. stands-walk 0 (lit≤ tt) stands e) before tt lines e
 
   -- ---- the number
@@ -169,21 +171,21 @@ module _ (s : List ℕ) where
   digit-walk p digits d e =
       let b = byteAt s p in
       state-from p (Number digits) (inside s p (digit-not b 0 refl d)) e
-      ∙ cond-fails (eqb b 10) (cond (eqb digits noDigit) Wrong Done) _ (ne-eqb b 10 (digit-not b 10 refl d))
+      ∙ cond-fails (eqb b lineEnd) (cond (eqb digits noDigit) Wrong Done) _ (ne-eqb b lineEnd (digit-not b lineEnd refl d))
       ∙ cond-holds (digit b) _ Wrong d
 
   number-walk : {p q v : ℕ} → NumberAt s p q v → stateAt s p ≡ Number noDigit → byteAt s q ≡ lineEnd → stateAt s (q + 1) ≡ Done
   number-walk (one-digit {p} d) e ended = go (eqb (byteAt s p) 48) (digit-walk p noDigit d e)
     where
       go : (zeroth : Bool) → stateAt s (p + 1) ≡ cond zeroth (Number digitZero) (Number otherDigit) → stateAt s (p + 1 + 1) ≡ Done
-      go true f = state-by s (p + 1) 10 (Number digitZero) f ended (lit< tt)
-      go false f = state-by s (p + 1) 10 (Number otherDigit) f ended (lit< tt)
+      go true f = state-by s (p + 1) lineEnd (Number digitZero) f ended (lit< tt)
+      go false f = state-by s (p + 1) lineEnd (Number otherDigit) f ended (lit< tt)
   number-walk (two-digits {p} d n d′) e ended =
       let one : stateAt s (p + 1) ≡ Number otherDigit =
       digit-walk p noDigit d e ∙ cond-fails (eqb (byteAt s p) 48) (Number digitZero) (Number otherDigit) (ne-eqb (byteAt s p) 48 n) in
       let two : stateAt s (p + 1 + 1) ≡ Number twoDigits = digit-walk (p + 1) otherDigit d′ one in
       let place : p + 1 + 1 ≡ p + 2 = omega arith in
-      state-by s (p + 2) 10 (Number twoDigits) (subst (λ (q : ℕ). stateAt s q ≡ Number twoDigits) place two) ended (lit< tt)
+      state-by s (p + 2) lineEnd (Number twoDigits) (subst (λ (q : ℕ). stateAt s q ≡ Number twoDigits) place two) ended (lit< tt)
 
   -- ---- the text
 

@@ -6,6 +6,8 @@ use native.Mathlib.Numerals.{add-one}
 use lib.Dec.{eqb, ltb}
 use borrow.Author.Needs.{needs}
 use borrow.Author.Tests.{lt-ltb, le-ltb, eq-eqb, ne-eqb}
+use Rattle.rules.specs.Signs.{bracketOpen}
+use Rattle.rules.specs.Phrases.{mostBrackets}
 use Rattle.form.specs.declared.machine.State.the-variants.{Name, Wrong}
 use Rattle.form.specs.Machine.{needSection, atItem}
 use Rattle.form.proofs.machine.at_item.Statement.{statement}
@@ -17,8 +19,9 @@ use Rattle.naming.proofs.signs.letter.Reads as letter-reads
 -- what an opening bracket leads to
 bracket-came : (b : lts.Else2 (letter-reads.Asked, letter-reads.Learnt) reads.Pre reads.Post) → let a = b .before .before .before .args in
     atItem (a .section) (a .opened) (a .byte)
-    ≡ cond (eqb (a .section) needSection) (cond (ltb (a .opened) 8) (Name (a .section) 0 (suc (a .opened))) Wrong) Wrong
-bracket-came b = rw (sym (b .before .before .letter .ensures), b .before .if1 .left, eq-eqb (b .before .before .before .args .byte) 40 (b .if2 .left))
+    ≡ cond (eqb (a .section) needSection) (cond (ltb (a .opened) mostBrackets) (Name (a .section) 0 (suc (a .opened))) Wrong) Wrong
+bracket-came b =
+    rw (sym (b .before .before .letter .ensures), b .before .if1 .left, eq-eqb (b .before .before .before .args .byte) bracketOpen (b .if2 .left))
 
 letter-requires : tie.Need-letter-requires
 letter-requires c κs = search needs
@@ -28,7 +31,7 @@ returns c = rw (sym (c .before .letter .ensures), c .if1 .taken)
 
 returns-2 : tie.Need-returns-2
 returns-2 c =
-    rw (sym (c .before .before .letter .ensures), c .before .if1 .left, ne-eqb (c .before .before .before .args .byte) 40 (c .if2 .taken))
+    rw (sym (c .before .before .letter .ensures), c .before .if1 .left, ne-eqb (c .before .before .before .args .byte) bracketOpen (c .if2 .taken))
 
 returns-3 : tie.Need-returns-3
 returns-3 c = rw (bracket-came (c .before), ne-eqb (c .before .before .before .before .args .section) needSection (c .if3 .taken))
@@ -40,12 +43,12 @@ returns-4 : tie.Need-returns-4
 returns-4 c =
     let a = c .before .before .before .before .before .args in
     let need = eq-eqb (a .section) needSection (c .before .if3 .left) in
-    rw (bracket-came (c .before .before), need, lt-ltb (a .opened) 8 (c .if4 .taken), add-one (a .opened))
+    rw (bracket-came (c .before .before), need, lt-ltb (a .opened) mostBrackets (c .if4 .taken), add-one (a .opened))
 
 returns-5 : tie.Need-returns-5
 returns-5 c =
     let a = c .before .before .before .before .before .args in
-    rw (bracket-came (c .before .before), eq-eqb (a .section) needSection (c .before .if3 .left), le-ltb (a .opened) 8 (c .if4 .left))
+    rw (bracket-came (c .before .before), eq-eqb (a .section) needSection (c .before .if3 .left), le-ltb (a .opened) mostBrackets (c .if4 .left))
 
 pub at-item-spec : {M : Type 1} → statement M
 at-item-spec = tie.close (tie.spec letter-requires returns returns-2 returns-3 add-t6 returns-4 returns-5)

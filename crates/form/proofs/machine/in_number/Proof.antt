@@ -2,6 +2,7 @@
 use mathlib.Core.Path.{_≡_, sym}
 use borrow.Author.Needs.{needs}
 use borrow.Author.Tests.{eq-eqb, ne-eqb, not-true, not-false}
+use Rattle.rules.specs.Signs.{lineEnd}
 use Rattle.form.specs.Machine.{noDigit, otherDigit, onDigit, inNumber}
 use Rattle.form.proofs.machine.in_number.Statement.{statement}
 use Rattle.form.proofs.machine.in_number.Tie as tie
@@ -14,16 +15,16 @@ digit-came : (d : lts.Else3 (digit-reads.Asked, digit-reads.Learnt) reads.Pre re
     inNumber (a .digits) (a .byte) ≡ onDigit (a .digits) (a .byte)
 digit-came d =
     rw (
-      ne-eqb (d .before .before .before .args .byte) 10 (d .before .before .if1 .left),
+      ne-eqb (d .before .before .before .args .byte) lineEnd (d .before .before .if1 .left),
       sym (d .before .digit .ensures),
       not-false (d .before .digit .result) (d .if3 .left),
     )
 
 returns : tie.Need-returns
-returns c = let a = c .before .before .args in rw (eq-eqb (a .byte) 10 (c .before .if1 .taken), eq-eqb (a .digits) noDigit (c .if2 .taken))
+returns c = let a = c .before .before .args in rw (eq-eqb (a .byte) lineEnd (c .before .if1 .taken), eq-eqb (a .digits) noDigit (c .if2 .taken))
 
 returns-2 : tie.Need-returns-2
-returns-2 c = let a = c .before .before .args in rw (eq-eqb (a .byte) 10 (c .before .if1 .taken), ne-eqb (a .digits) noDigit (c .if2 .left))
+returns-2 c = let a = c .before .before .args in rw (eq-eqb (a .byte) lineEnd (c .before .if1 .taken), ne-eqb (a .digits) noDigit (c .if2 .left))
 
 digit-requires : tie.Need-digit-requires
 digit-requires c κs = search needs
@@ -31,7 +32,7 @@ digit-requires c κs = search needs
 returns-3 : tie.Need-returns-3
 returns-3 c =
     rw (
-      ne-eqb (c .before .before .before .args .byte) 10 (c .before .before .if1 .left),
+      ne-eqb (c .before .before .before .args .byte) lineEnd (c .before .before .if1 .left),
       sym (c .before .digit .ensures),
       not-true (c .before .digit .result) (c .if3 .taken),
     )

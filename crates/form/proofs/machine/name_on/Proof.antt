@@ -5,6 +5,7 @@ use Prim.Native.Nat.{_+_}
 use lib.Dec.{ltb}
 use borrow.Author.Needs.{needs}
 use borrow.Author.Tests.{lt-ltb, le-ltb, not-true, not-false}
+use Rattle.rules.specs.Names.{mostNameBytes}
 use Rattle.form.specs.declared.machine.State.the-variants.{Name, Wrong}
 use Rattle.form.specs.Machine.{behindItem, nameOn}
 use Rattle.form.proofs.Branches.{name-on-none, name-on-some}
@@ -29,7 +30,7 @@ claims = (
 -- what a byte behind the first bytes of a name leads to
 name-came : (n : lts.After-in-name claims reads.Pre reads.Post) → let a = n .before .before .args in
     nameOn (a .section) (a .length) (a .opened) (a .byte)
-    ≡ cond (n .in-name .result) (cond (ltb (a .length) 12) (Name (a .section) (a .length + 1) (a .opened)) Wrong)
+    ≡ cond (n .in-name .result) (cond (ltb (a .length) mostNameBytes) (Name (a .section) (a .length + 1) (a .opened)) Wrong)
     (behindItem (a .section) (a .opened) (a .byte))
 name-came n =
     let a = n .before .before .args in
@@ -58,12 +59,12 @@ add-t7 c = search needs
 returns-3 : tie.Need-returns-3
 returns-3 c =
     let n = c .before .before in
-    rw (name-came n, not-false (n .in-name .result) (c .before .if2 .left), lt-ltb (n .before .before .args .length) 12 (c .if3 .taken))
+    rw (name-came n, not-false (n .in-name .result) (c .before .if2 .left), lt-ltb (n .before .before .args .length) mostNameBytes (c .if3 .taken))
 
 returns-4 : tie.Need-returns-4
 returns-4 c =
     let n = c .before .before in
-    rw (name-came n, not-false (n .in-name .result) (c .before .if2 .left), le-ltb (n .before .before .args .length) 12 (c .if3 .left))
+    rw (name-came n, not-false (n .in-name .result) (c .before .if2 .left), le-ltb (n .before .before .args .length) mostNameBytes (c .if3 .left))
 
 pub name-on-spec : {M : Type 1} → statement M
 name-on-spec =
