@@ -11,4 +11,5 @@ pub mod ReadPhrases
 pub mod ReadLines
 pub mod ReadTexts
 pub mod Places
+pub mod Decided
 pub mod Branches

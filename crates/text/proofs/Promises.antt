@@ -1,27 +1,38 @@
--- What the promise of the call says: one answer for each text, which refusal comes when and at which place, and what a text without a fault gives.
+-- What the promise of the call says: one answer for each text, and that there is one, which refusal comes when and at which place, and what a text without a fault gives.
 -- Assumes nothing.
 use mathlib.Core.Path.{_≡_, sym, ap, _∙_}
 use mathlib.Core.Bool.{false}
 use mathlib.Core.List.{List, [], map}
-use mathlib.Core.Logic.{_↔_}
+use mathlib.Core.Logic.{_⊎_, inl, inr, _↔_}
 use mathlib.Core.Option.{none, some}
 use Prim.Native.Nat.{ℕ, _≤_, _<_}
+use native.Mathlib.Decide.{decLt}
 use native.Mathlib.Omega.{arith}
 use lib.ListN.{length}
 use Rattle.rules.specs.Numbers.{Numbers, unfit, jobOf}
 use Rattle.rules.specs.Refusals.{textTooLong, textNotOfForm}
-use Rattle.rules.specs.Texts.{Sheet, OfForm, StopsAt}
+use Rattle.rules.specs.Texts.{Sheet, OfForm, HasForm, StopsAt}
 use Rattle.rules.specs.Sheets.{sheetFault, needIn, numbersOf, namesOf}
 use Rattle.rules.specs.SheetFaults.{IsRight}
-use Rattle.rules.specs.Readings.{mostBytes, Reading, refused, taken, Reads, of-form}
+use Rattle.rules.specs.Readings.{mostBytes, Reading, refused, taken, readingOf, Reads, too-long, not-of-form, of-form}
 use Rattle.rules.proofs.Sheets.{sheet-fit, sheet-job}
 use Rattle.rules.proofs.Faults.{right-exactly}
 use Rattle.rules.proofs.Readings.{one-reading, reading-taken, refused-numbers, Accepted, Faulty, taken-exactly, too-long-exactly, not-of-form-exactly, faulty-exactly}
 use Rattle.job.specs.Records.{numbersIn, noJob}
 use Rattle.job.proofs.Records.{fit-numbers}
+use Rattle.form.proofs.Decided.{decided}
 use Rattle.text.specs.declared.JobRead.{JobRead}
 use Rattle.text.specs.Tables.{nameTable}
 use Rattle.text.specs.Promises.{readOf, Takes}
+
+-- every text has a reading; that it is the only one is a law of the rules
+pub some-reading : (s : List ℕ) → (w : Reading) × Reads s w
+some-reading s = go (decLt mostBytes (length s)) (decided s)
+  where
+    go : Dec (mostBytes < length s) → HasForm s ⊎ ((p : ℕ) × StopsAt s p) → (w : Reading) × Reads s w
+    go (yes long) d = (refused textTooLong mostBytes, too-long long)
+    go (no n) (inl (sheet, form)) = (readingOf sheet, of-form sheet (omega arith) form)
+    go (no n) (inr (p, stops)) = (refused textNotOfForm p, not-of-form (omega arith) stops)
 
 -- two answers that the promise allows are equal
 pub one-answer : {s : List ℕ} {r t : JobRead} → Takes s r → Takes s t → r ≡ t
