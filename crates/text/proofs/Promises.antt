@@ -1,5 +1,5 @@
--- What the promise of the call says: one answer for each text, and that there is one, which refusal comes when and at which place, and what a text without a fault gives.
--- Assumes nothing.
+-- What the promise of the call says: that each text has one answer, which refusal comes when and at which place, and what a text without a fault
+-- gives. Assumes nothing.
 use mathlib.Core.Path.{_≡_, sym, ap, _∙_}
 use mathlib.Core.Bool.{false}
 use mathlib.Core.List.{List, [], map}
