@@ -5,25 +5,15 @@ use mathlib.Core.List.{List, [], _∷_, _++_}
 use Prim.Native.Nat.{ℕ, zero, suc, _+_, _-_, _<_, _≤_}
 use native.Mathlib.Omega.{arith}
 use lib.ListN.{length}
-use Rattle.rules.specs.Signs.{byteAt, inName}
+use Rattle.rules.specs.Signs.{byteAt, Says, inName}
 use Rattle.rules.specs.Names.{Spot, spot, Run, Name}
 use Rattle.rules.specs.Texts.{Line, line}
-use Rattle.rules.proofs.Signs.{inside}
+use Rattle.rules.proofs.Signs.{inside, says-first}
 use Rattle.naming.specs.Words.{isSign, Skips, Between, nothing, sign, word, Words, Rows, no-row, one-row}
 use Rattle.naming.proofs.Walks.{between-forward, between-append, words-skips, words-stops, words-some, words-name, words-later, words-end}
-use Rattle.faults.specs.Kinds.{beginsOf, widthOf}
+use Rattle.faults.specs.Kinds.{keyOf, widthOf}
 use Rattle.faults.specs.declared.sections.Section.{Section}
 use Rattle.faults.specs.declared.sections.Section.the-variants.{Columns, Forbid, Need}
-
--- ---- bytes read
-
--- what it says of a byte of the text and one sought that the two that were read are the same
-pub told-same : {r f a b : ℕ} → r ≡ a → f ≡ b → r ≡ f → a ≡ b
-told-same e g h = sym e ∙ h ∙ g
-
--- or not
-pub told-other : {r f a b : ℕ} → r ≡ a → f ≡ b → (r ≡ f → ⊥) → a ≡ b → ⊥
-told-other e g n h = n (e ∙ h ∙ sym g)
 
 -- ---- places
 
@@ -32,10 +22,14 @@ pub byte-inside : (s : List ℕ) {p b : ℕ} → byteAt s p ≡ b → (b ≡ 0 �
 byte-inside s {p} e n = inside s p (λ z. n (sym e ∙ z))
 
 -- where a line begins lies within the text
-pub line-inside : (s : List ℕ) (section : Section) {p : ℕ} → byteAt s p ≡ beginsOf section → p < length s
-line-inside s Columns e = byte-inside s e (λ z. absurd (omega arith))
-line-inside s Forbid e = byte-inside s e (λ z. absurd (omega arith))
-line-inside s Need e = byte-inside s e (λ z. absurd (omega arith))
+pub line-inside : {s : List ℕ} {p b : ℕ} {key : List ℕ} → Says s p (b ∷ key) → (b ≡ 0 → ⊥) → p < length s
+line-inside {s} says n = byte-inside s (says-first says .0) n
+
+-- so does where one of a kind begins
+pub key-inside : {s : List ℕ} (section : Section) {p : ℕ} → Says s p (keyOf section) → p < length s
+key-inside Columns says = line-inside says (λ z. absurd (omega arith))
+key-inside Forbid says = line-inside says (λ z. absurd (omega arith))
+key-inside Need says = line-inside says (λ z. absurd (omega arith))
 
 -- a key has a few bytes
 pub width-bounds : (section : Section) → (1 ≤ widthOf section) × (widthOf section ≤ 8)
@@ -50,39 +44,39 @@ words-inside {s} w = (between-forward (w .between), byte-inside s (w .ends) (λ 
 -- ---- lines
 
 -- of the lines to place q those from this place on are left, and this is known of them
-pub record RowsLeft (s : List ℕ) (begins width place q : ℕ) (P : List (Line (List Spot)) → Type 0) : Type 0 where
+pub record RowsLeft (s key : List ℕ) (place q : ℕ) (P : List (Line (List Spot)) → Type 0) : Type 0 where
   pub later : List (Line (List Spot))
-  pub rows : Rows s begins width place q later
+  pub rows : Rows s key place q later
   pub known : P later
 
-module _ {s : List ℕ} {begins width place q : ℕ} {P : List (Line (List Spot)) → Type 0} (left : RowsLeft s begins width place q P) where
+module _ {s key : List ℕ} {place q : ℕ} {P : List (Line (List Spot)) → Type 0} (left : RowsLeft s key place q P) where
   -- where a line begins one is left
-  pub row-here : byteAt s place ≡ begins
-      → (r : ℕ) × (names : List Spot) × (later : List (Line (List Spot))) × Words s (place + width) r names × P (line place names ∷ later)
+  pub row-here : Says s place key
+      → (r : ℕ) × (names : List Spot) × (later : List (Line (List Spot))) × Words s (place + length key) r names × P (line place names ∷ later)
   row-here e = go (left .rows) (left .known)
     where
-      go : {q : ℕ} {rows : List (Line (List Spot))} → Rows s begins width place q rows → P rows
-          → (r : ℕ) × (names : List Spot) × (later : List (Line (List Spot))) × Words s (place + width) r names × P (line place names ∷ later)
+      go : {q : ℕ} {rows : List (Line (List Spot))} → Rows s key place q rows → P rows
+          → (r : ℕ) × (names : List Spot) × (later : List (Line (List Spot))) × Words s (place + length key) r names × P (line place names ∷ later)
       go (no-row n) k = absurd (n e)
       go (one-row {r} {names} {rows} f words later) k = (r, names, rows, words, k)
 
   -- behind it the others are left
-  pub row-next : {next : ℕ} {Q : List (Line (List Spot)) → Type 0} → byteAt s place ≡ begins
-      → ((r : ℕ) (names : List Spot) → Words s (place + width) r names → next ≡ r + 1)
-      → ((r : ℕ) (names : List Spot) (later : List (Line (List Spot))) → Words s (place + width) r names → P (line place names ∷ later) → Q later)
-      → RowsLeft s begins width next q Q
+  pub row-next : {next : ℕ} {Q : List (Line (List Spot)) → Type 0} → Says s place key
+      → ((r : ℕ) (names : List Spot) → Words s (place + length key) r names → next ≡ r + 1)
+      → ((r : ℕ) (names : List Spot) (later : List (Line (List Spot))) → Words s (place + length key) r names → P (line place names ∷ later) → Q later)
+      → RowsLeft s key next q Q
   row-next {next} {Q} e ends step = go (left .rows) (left .known)
     where
-      go : {q : ℕ} {rows : List (Line (List Spot))} → Rows s begins width place q rows → P rows → RowsLeft s begins width next q Q
+      go : {q : ℕ} {rows : List (Line (List Spot))} → Rows s key place q rows → P rows → RowsLeft s key next q Q
       go (no-row n) k = absurd (n e)
       go (one-row {r} {names} {rows} f words later) k =
           record { later = rows; rows = rw (ends r names words) later; known = step r names rows words k }
 
   -- where no line begins none is left
-  pub row-end : (byteAt s place ≡ begins → ⊥) → (place ≡ q) × P []
+  pub row-end : (Says s place key → ⊥) → (place ≡ q) × P []
   row-end n = go (left .rows) (left .known)
     where
-      go : {q : ℕ} {rows : List (Line (List Spot))} → Rows s begins width place q rows → P rows → (place ≡ q) × P []
+      go : {q : ℕ} {rows : List (Line (List Spot))} → Rows s key place q rows → P rows → (place ≡ q) × P []
       go (no-row m) k = (refl, k)
       go (one-row e words later) k = absurd (n e)
 

@@ -7,21 +7,20 @@ use Prim.Native.Nat.{ℕ, _+_, _-_, _*_, _<_, _≤_}
 use native.Mathlib.Omega.{arith}
 use lib.ListN.{length, length-map}
 use borrow.Author.Tests.{eq-eqb, ne-eqb, leb-true}
-use Rattle.rules.specs.Signs.{byteAt, digit, lineEnd}
+use Rattle.rules.specs.Signs.{byteAt, digit, lineEnd, forbidKey, needKey}
 use Rattle.rules.specs.Refusals.{tooMany}
 use Rattle.rules.specs.Names.{Spot}
 use Rattle.rules.specs.Phrases.{Formula, namesIn}
 use Rattle.rules.specs.Texts.{Line, line, Number, one-digit, two-digits, Sheet, OfForm}
 use Rattle.rules.specs.Sheets.{refusal, firstOver, nameAfter, lineAfter, firstNameFault, linesFault, columnFault, forbidFault, needFault, namesFault, linesIn, endFault}
 use Rattle.rules.proofs.Lists.{and-parts}
-use Rattle.rules.proofs.Signs.{says-first}
-use Rattle.naming.specs.Words.{Rows, no-row, one-row}
+use Rattle.naming.specs.Words.{Words, Rows, columnsFrom}
 use Rattle.naming.proofs.Laid.{laid, laid-forbids, laid-needs}
 use Rattle.faults.specs.Kinds.{rowsOver, Walks, Sectioned}
 use Rattle.faults.specs.declared.sections.Walked.{Walked}
 use Rattle.faults.specs.declared.sections.Places.{Places}
-use Rattle.faults.proofs.Refusing.{map-first, no-first, first-only}
-use Rattle.faults.proofs.Left.{byte-inside}
+use Rattle.faults.proofs.Refusing.{map-first, no-first}
+use Rattle.faults.proofs.Left.{byte-inside, line-inside}
 use Rattle.faults.proofs.Counted.{few-names, needs-rows}
 
 -- ---- the number at the end
@@ -48,31 +47,19 @@ number-two (two-digits e f g) i h = refl
 
 -- ---- the lines
 
--- rows begin with their byte, or there are none
-rows-begin : {s : List ℕ} {begins width p q : ℕ} {rows : List (Line (List Spot))} → Rows s begins width p q rows
-    → (b : ℕ) → (begins ≡ b → ⊥) → (byteAt s q ≡ b → ⊥) → byteAt s p ≡ b → ⊥
-rows-begin (no-row n) b other after e = after e
-rows-begin (one-row f words rows) b other after e = other (sym f ∙ e)
-
 module _ {s : List ℕ} {sheet : Sheet} (form : OfForm s sheet) where
-  -- the line of the columns is the only one of its kind
-  pub columns-row : Rows s 99 8 0 (form .columnsTo + 1) (line 0 (sheet .columns) ∷ [])
-  columns-row =
-      let end : byteAt s (form .endFrom) ≡ 99 → ⊥ = λ e. let z = sym (says-first (form .endSaid) .0) ∙ e in omega arith in
-      let needs : byteAt s (form .needsFrom) ≡ 99 → ⊥ = rows-begin (laid-needs form) 99 (λ e. omega arith) end in
-      one-row (says-first (form .columnsSaid) .0) (laid form .columns) (no-row (rows-begin (laid-forbids form) 99 (λ e. omega arith) needs))
-
-  -- walks over the lines of each kind, each from where the one before ended, find where they stand
-  pub sectioned : {a b d : Walked} → ((q : ℕ) (rows : List (Line (List Spot))) → Rows s 99 8 0 q rows → Walks q rows a)
-      → ((q : ℕ) (rows : List (Line (List Spot))) → Rows s 102 7 (a .to) q rows → Walks q rows b)
-      → ((q : ℕ) (rows : List (Line (List Spot))) → Rows s 110 5 (b .to) q rows → Walks q rows d)
-      → Sectioned s sheet form (record { forbids = a .to; needs = b .to; end = d .to; lines = b .lines + d .lines })
+  -- the place behind the line of the columns, and walks over the lines of each kind, each from where the one before ended, find where they stand
+  pub sectioned : {from : ℕ} {b d : Walked}
+      → ((q : ℕ) (names : List Spot) → Words s columnsFrom q names → from ≡ q + 1)
+      → ((q : ℕ) (rows : List (Line (List Spot))) → Rows s forbidKey from q rows → Walks q rows b)
+      → ((q : ℕ) (rows : List (Line (List Spot))) → Rows s needKey (b .to) q rows → Walks q rows d)
+      → Sectioned s sheet form (record { forbids = from; needs = b .to; end = d .to; lines = b .lines + d .lines })
   sectioned columns forbids needs =
-      let first = columns (form .columnsTo + 1) (line 0 (sheet .columns) ∷ []) columns-row in
-      let second = forbids (form .needsFrom) (sheet .forbids) (rw (first .to) (laid-forbids form)) in
+      let first = columns (form .columnsTo) (sheet .columns) (laid form .columns) in
+      let second = forbids (form .needsFrom) (sheet .forbids) (rw first (laid-forbids form)) in
       let third = needs (form .endFrom) (map (λ l. line (l .place) (namesIn (l .value))) (sheet .needs)) (rw (second .to) (laid-needs form)) in
       record {
-        forbids = first .to;
+        forbids = first;
         needs = second .to;
         end = third .to;
         lines = omega (arith, second .lines, third .lines ∙ length-map (sheet .needs) _);
@@ -80,16 +67,16 @@ module _ {s : List ℕ} {sheet : Sheet} (form : OfForm s sheet) where
 
 module _ {s : List ℕ} {sheet : Sheet} (form : OfForm s sheet) {places : Places} (at : Sectioned s sheet form places) where
   -- the forbid lines from their place on
-  pub forbid-rows : Rows s 102 7 (places .forbids) (form .needsFrom) (sheet .forbids)
+  pub forbid-rows : Rows s forbidKey (places .forbids) (form .needsFrom) (sheet .forbids)
   forbid-rows = rw (at .forbids) (laid-forbids form)
 
   -- the need lines from their place on
-  pub need-rows : Rows s 110 5 (places .needs) (form .endFrom) (map (λ l. line (l .place) (namesIn (l .value))) (sheet .needs))
+  pub need-rows : Rows s needKey (places .needs) (form .endFrom) (map (λ l. line (l .place) (namesIn (l .value))) (sheet .needs))
   need-rows = rw (at .needs) (laid-needs form)
 
   -- the end line lies within the text
   pub end-inside : places .end < length s
-  end-inside = rw (at .end) (byte-inside s (says-first (form .endSaid) .0) (λ z. absurd (omega arith)))
+  end-inside = rw (at .end) (line-inside (form .endSaid) (λ z. absurd (omega arith)))
 
   module _ {n : ℕ} (read : (q k : ℕ) → Number s (places .end + 4) q k → byteAt s q ≡ lineEnd → n ≡ k) where
     -- the number read is the sheet's
@@ -134,8 +121,8 @@ need-names (l ∷ lines) = rw (need-names lines)
 
 -- names at fault: in the line of the columns, the forbid lines, the need lines
 pub names-parts : (sheet : Sheet) → namesFault sheet
-    ≡ orElse (linesFault columnFault (map (λ l. l .value) (line 0 (sheet .columns) ∷ [])))
+    ≡ orElse (firstNameFault columnFault [] (sheet .columns))
     (orElse (linesFault (forbidFault (sheet .columns)) (map (λ l. l .value) (sheet .forbids)))
     (linesFault (needFault (sheet .columns)) (map (λ l. l .value) (map (λ l. line (l .place) (namesIn (l .value))) (sheet .needs)))))
-unfolding namesFault linesFault
-names-parts sheet = rw (need-names (sheet .needs), first-only (firstNameFault columnFault [] (sheet .columns)))
+unfolding namesFault
+names-parts sheet = rw (need-names (sheet .needs))

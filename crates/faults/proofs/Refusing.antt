@@ -61,9 +61,3 @@ module _ {A : Type 0} where
   unfolding orElse
   no-first none b e = refl
   no-first (some x) b e = e
-
-  -- none behind the first
-  pub first-only : (a : Option A) → orElse a none ≡ a
-  unfolding orElse
-  first-only none = refl
-  first-only (some x) = refl

@@ -5,6 +5,7 @@ use mathlib.Core.Option.{Option, none, some, orElse}
 use Prim.Native.Nat.{ℕ, zero, suc, _+_}
 use lib.ListN.{length}
 use Rattle.rules.specs.Numbers.{mostColumnMarks}
+use Rattle.rules.specs.Signs.{columnsKey, forbidKey, needKey}
 use Rattle.rules.specs.Names.{Spot}
 use Rattle.rules.specs.Texts.{Line, Sheet, OfForm}
 use Rattle.rules.specs.Sheets.{nameAfter, columnFault, forbidFault, needFault, linesIn}
@@ -13,17 +14,15 @@ use Rattle.faults.specs.declared.sections.Section.the-variants.{Columns,
 use Rattle.faults.specs.declared.sections.Walked.{Walked}
 use Rattle.faults.specs.declared.sections.Places.{Places}
 
--- c, f or n
-abbrev pub beginsOf : Section → ℕ
-beginsOf Columns = 99
-beginsOf Forbid = 102
-beginsOf Need = 110
+-- the bytes that a line begins with
+abbrev pub keyOf : Section → List ℕ
+keyOf Columns = columnsKey
+keyOf Forbid = forbidKey
+keyOf Need = needKey
 
--- how many bytes a line's key has
+-- how many they are
 abbrev pub widthOf : Section → ℕ
-widthOf Columns = 8
-widthOf Forbid = 7
-widthOf Need = 5
+widthOf section = length (keyOf section)
 
 -- when a name of such a line is at fault
 abbrev pub faultBy : Section → List Spot → List Spot → Spot → Option ℕ

@@ -4,9 +4,10 @@ use crate::numbers::TOO_MANY;
 use crate::numbers::no_fault;
 use crate::sections::Places;
 use crate::sections::Section;
-use crate::sections::begins;
+use crate::sections::key_stands;
 use crate::sections::next_line;
 use crate::sections::width;
+use naming::known::COLUMNS_FROM;
 use naming::signs::byte;
 use naming::signs::in_name;
 use naming::words::name_end;
@@ -15,14 +16,14 @@ ghost use mathlib.Core.Path.{_≡_};
 ghost use mathlib.Core.List.{List};
 ghost use mathlib.Core.Option.{Option·map};
 ghost use Prim.Native.Nat.{ℕ};
+ghost use Rattle.rules.specs.Signs.{forbidKey, needKey};
 ghost use Rattle.rules.specs.Names.{Spot};
 ghost use Rattle.rules.specs.Refusals.{tooMany};
 ghost use Rattle.rules.specs.Texts.{Line, Sheet, OfForm};
 ghost use Rattle.rules.specs.Sheets.{refusal, nameAfter, lineAfter, firstOver};
 ghost use Rattle.naming.specs.Words.{Words, Rows};
 ghost use Rattle.faults.specs.Refused.{refusalIn};
-ghost use Rattle.faults.specs.Kinds.{beginsOf, widthOf, rowsOver, Sectioned};
-ghost use Rattle.faults.specs.declared.sections.Section.the-variants.{Forbid, Need};
+ghost use Rattle.faults.specs.Kinds.{rowsOver, Sectioned};
 
 // "Columns 1 to 16. Forbidden sets 0 to 32. Needs 0 to 8. Column marks in a need 1 to 32."
 const MOST_COLUMNS: usize = 16;
@@ -55,13 +56,12 @@ fn name_over(text: &[u8], from: usize, most: usize) -> Fault
 
 // The 33rd forbid line.
 fn forbid_over(text: &[u8], from: usize) -> Fault
-    ensures { λ r. ⌜ ((q : ℕ) (rows : List (Line (List Spot))) → Rows (now (text .entry)) (beginsOf Forbid) (widthOf Forbid) from q rows
+    ensures { λ r. ⌜ ((q : ℕ) (rows : List (Line (List Spot))) → Rows (now (text .entry)) forbidKey from q rows
         → refusalIn r ≡ Option·map (refusal tooMany) (lineAfter 32 rows)) ⌝ }
 {
-    let first = begins(Section::Forbid);
     let mut count = 0;
     let mut place = from;
-    while byte(text, place) == first {
+    while key_stands(text, Section::Forbid, place) {
         if count == MOST_FORBIDDEN {
             return Fault {
                 number: TOO_MANY,
@@ -76,14 +76,13 @@ fn forbid_over(text: &[u8], from: usize) -> Fault
 
 // The 33rd name of a need line, or the 9th need line.
 fn need_over(text: &[u8], from: usize) -> Fault
-    ensures { λ r. ⌜ ((q : ℕ) (rows : List (Line (List Spot))) → Rows (now (text .entry)) (beginsOf Need) (widthOf Need) from q rows
+    ensures { λ r. ⌜ ((q : ℕ) (rows : List (Line (List Spot))) → Rows (now (text .entry)) needKey from q rows
         → refusalIn r ≡ Option·map (refusal tooMany) (rowsOver 8 rows)) ⌝ }
 {
-    let first = begins(Section::Need);
     let before = width(Section::Need);
     let mut count = 0;
     let mut place = from;
-    while byte(text, place) == first {
+    while key_stands(text, Section::Need, place) {
         if count == MOST_NEEDS {
             return Fault {
                 number: TOO_MANY,
@@ -104,7 +103,7 @@ pub fn over(text: &[u8], places: Places) -> Fault
     ensures { λ r. ⌜ ((sheet : Sheet) (form : OfForm (now (text .entry)) sheet) → Sectioned (now (text .entry)) sheet form places
         → refusalIn r ≡ Option·map (refusal tooMany) (firstOver sheet)) ⌝ }
 {
-    let column = name_over(text, width(Section::Columns), MOST_COLUMNS);
+    let column = name_over(text, COLUMNS_FROM, MOST_COLUMNS);
     if column.number != 0 {
         return column;
     }

@@ -5,9 +5,10 @@ use crate::numbers::NAME_UNKNOWN;
 use crate::numbers::no_fault;
 use crate::sections::Places;
 use crate::sections::Section;
-use crate::sections::begins;
+use crate::sections::key_stands;
 use crate::sections::next_line;
 use crate::sections::width;
+use naming::known::COLUMNS_FROM;
 use naming::known::MOST_COLUMNS;
 use naming::known::column_of;
 use naming::signs::byte;
@@ -26,7 +27,7 @@ ghost use Rattle.rules.specs.Texts.{Line, Sheet, OfForm};
 ghost use Rattle.rules.specs.Sheets.{columnFault, needFault, firstNameFault, linesFault, namesFault};
 ghost use Rattle.naming.specs.Words.{Between, Words, Rows, columnsFrom};
 ghost use Rattle.faults.specs.Refused.{numberIn, refusalIn};
-ghost use Rattle.faults.specs.Kinds.{beginsOf, widthOf, faultBy, Sectioned};
+ghost use Rattle.faults.specs.Kinds.{keyOf, faultBy, Sectioned};
 
 // 4 if the name stands before in its line, else 0.
 fn repeated(text: &[u8], from: usize, at: usize) -> u16
@@ -90,13 +91,12 @@ fn line_fault(text: &[u8], section: Section, from: usize) -> Fault
 // The first name at fault in the lines of a kind from a place on.
 fn lines_fault(text: &[u8], section: Section, from: usize) -> Fault
     ensures { λ r. ⌜ ((q to : ℕ) (columns : List Spot) (rows : List (Line (List Spot))) → Words (now (text .entry)) columnsFrom q columns
-        → length columns ≤ 16 → Rows (now (text .entry)) (beginsOf section) (widthOf section) from to rows
+        → length columns ≤ 16 → Rows (now (text .entry)) (keyOf section) from to rows
         → refusalIn r ≡ linesFault (faultBy section columns) (map (λ l. l .value) rows)) ⌝ }
 {
-    let first = begins(section);
     let before = width(section);
     let mut place = from;
-    while byte(text, place) == first {
+    while key_stands(text, section, place) {
         let fault = line_fault(text, section, place + before);
         if fault.number != 0 {
             return fault;
@@ -111,7 +111,7 @@ pub fn names_fault(text: &[u8], places: Places) -> Fault
     ensures { λ r. ⌜ ((sheet : Sheet) (form : OfForm (now (text .entry)) sheet) → Sectioned (now (text .entry)) sheet form places
         → length (sheet .columns) ≤ 16 → refusalIn r ≡ namesFault sheet) ⌝ }
 {
-    let column = lines_fault(text, Section::Columns, 0);
+    let column = line_fault(text, Section::Columns, COLUMNS_FROM);
     if column.number != 0 {
         return column;
     }

@@ -1,14 +1,16 @@
 // Where the lines of each kind begin in a text of the form.
-use naming::signs::byte;
+use naming::signs::stands;
 use naming::words::line_end;
 ghost use mathlib.Core.Path.{_≡_};
+ghost use mathlib.Core.Bool.{true, false};
 ghost use mathlib.Core.List.{List};
 ghost use Prim.Native.Nat.{ℕ, _+_, _<_, _≤_};
 ghost use lib.ListN.{length};
+ghost use Rattle.rules.specs.Signs.{Says};
 ghost use Rattle.rules.specs.Names.{Spot};
 ghost use Rattle.rules.specs.Texts.{Line, Sheet, OfForm};
 ghost use Rattle.naming.specs.Words.{Words, Rows};
-ghost use Rattle.faults.specs.Kinds.{beginsOf, widthOf, Walks, Sectioned};
+ghost use Rattle.faults.specs.Kinds.{keyOf, widthOf, Walks, Sectioned};
 
 // The kinds of lines that have names.
 pub enum Section {
@@ -17,14 +19,15 @@ pub enum Section {
     Need,
 }
 
-// The byte that a line begins with. No two kinds share it, nor does the end line.
-pub fn begins(section: Section) -> u8
-    ensures { λ r. ⌜ r ≡ beginsOf section ⌝ }
+// Whether a line of a kind begins at a place.
+pub fn key_stands(text: &[u8], section: Section, at: usize) -> bool
+    ensures there { λ r. ⌜ (r ≡ true → Says (now (text .entry)) at (keyOf section)) ⌝ }
+    ensures missing { λ r. ⌜ (r ≡ false → Says (now (text .entry)) at (keyOf section) → ⊥) ⌝ }
 {
     match section {
-        Section::Columns => b'c',
-        Section::Forbid => b'f',
-        Section::Need => b'n',
+        Section::Columns => stands(text, at, b"columns="),
+        Section::Forbid => stands(text, at, b"forbid="),
+        Section::Need => stands(text, at, b"need="),
     }
 }
 
@@ -41,7 +44,7 @@ pub fn width(section: Section) -> usize
 
 // The place behind the line of a kind that begins at a place.
 pub fn next_line(text: &[u8], section: Section, at: usize) -> usize
-    requires { ⌜ at < length (now text) ⌝ }
+    requires { ⌜ at ≤ length (now text) ⌝ }
     ensures later { λ r. ⌜ at < r ⌝ }
     ensures is { λ r. ⌜ ((q : ℕ) (names : List Spot) → Words (now (text .entry)) (at + widthOf section) q names → r ≡ q + 1) ⌝ }
 {
@@ -61,13 +64,12 @@ pub struct Walked {
 // The lines of a kind from a place on.
 pub fn walk(text: &[u8], section: Section, from: usize) -> Walked
     ensures few { λ r. ⌜ r .lines ≤ length (now (text .entry)) ⌝ }
-    ensures is { λ r. ⌜ ((q : ℕ) (rows : List (Line (List Spot))) → Rows (now (text .entry)) (beginsOf section) (widthOf section) from q rows
+    ensures is { λ r. ⌜ ((q : ℕ) (rows : List (Line (List Spot))) → Rows (now (text .entry)) (keyOf section) from q rows
         → Walks q rows r) ⌝ }
 {
-    let first = begins(section);
     let mut lines = 0;
     let mut place = from;
-    while byte(text, place) == first {
+    while key_stands(text, section, place) {
         place = next_line(text, section, place);
         lines += 1;
     }
@@ -85,11 +87,11 @@ pub struct Places {
 pub fn sections(text: &[u8]) -> Places
     ensures { λ r. ⌜ ((sheet : Sheet) (form : OfForm (now (text .entry)) sheet) → Sectioned (now (text .entry)) sheet form r) ⌝ }
 {
-    let columns = walk(text, Section::Columns, 0);
-    let forbids = walk(text, Section::Forbid, columns.to);
+    let from = next_line(text, Section::Columns, 0);
+    let forbids = walk(text, Section::Forbid, from);
     let needs = walk(text, Section::Need, forbids.to);
     Places {
-        forbids: columns.to,
+        forbids: from,
         needs: forbids.to,
         end: needs.to,
         lines: forbids.lines + needs.lines,

@@ -1,4 +1,5 @@
 -- What the proofs of naming share, and what those who walk over names need.
+pub mod Said
 pub mod Walks
 pub mod Sought
 pub mod Laid

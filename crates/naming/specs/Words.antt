@@ -5,7 +5,7 @@ use mathlib.Core.List.{List, [], _∷_}
 use Prim.Native.Nat.{ℕ, _+_, _<_, _≤_}
 use lib.Dec.{eqb}
 use lib.ListN.{length}
-use Rattle.rules.specs.Signs.{byteAt, inName, lineEnd}
+use Rattle.rules.specs.Signs.{byteAt, Says, inName, lineEnd}
 use Rattle.rules.specs.Names.{Spot, spot, Name}
 use Rattle.rules.specs.Texts.{Line, line}
 
@@ -38,11 +38,11 @@ pub record Words (s : List ℕ) (p q : ℕ) (names : List Spot) : Type 0 where
   pub between : Between s p q names
   pub ends : byteAt s q ≡ lineEnd
 
--- lines from place p to place q that begin with this byte, each with the names behind its key of so many bytes; the next line begins otherwise
-pub data Rows (s : List ℕ) (begins width : ℕ) : ℕ → ℕ → List (Line (List Spot)) → Type 0 where
-  no-row : {p : ℕ} → (byteAt s p ≡ begins → ⊥) → Rows s begins width p p []
-  one-row : {p r q : ℕ} {names : List Spot} {rows : List (Line (List Spot))} → byteAt s p ≡ begins → Words s (p + width) r names
-      → Rows s begins width (r + 1) q rows → Rows s begins width p q (line p names ∷ rows)
+-- lines from place p to place q, each with the names behind its key; no such line follows
+pub data Rows (s key : List ℕ) : ℕ → ℕ → List (Line (List Spot)) → Type 0 where
+  no-row : {p : ℕ} → (Says s p key → ⊥) → Rows s key p p []
+  one-row : {p r q : ℕ} {names : List Spot} {rows : List (Line (List Spot))} → Says s p key → Words s (p + length key) r names
+      → Rows s key (r + 1) q rows → Rows s key p q (line p names ∷ rows)
 
 -- the names of the columns stand behind `columns=`
 abbrev pub columnsFrom : ℕ

@@ -1,6 +1,7 @@
 // The bytes of a job text.
 ghost use mathlib.Core.Path.{_≡_};
-ghost use Rattle.rules.specs.Signs.{byteAt, letter as letterByte, digit as digitByte, inName};
+ghost use mathlib.Core.Bool.{true, false};
+ghost use Rattle.rules.specs.Signs.{byteAt, Says, letter as letterByte, digit as digitByte, inName};
 ghost use Rattle.naming.specs.Words.{isSign};
 
 pub const LINE_END: u8 = b'\n';
@@ -10,6 +11,25 @@ pub fn byte(text: &[u8], at: usize) -> u8
     ensures { λ r. ⌜ r ≡ byteAt (now (text .entry)) at ⌝ }
 {
     if at < text.len() { text[at] } else { 0 }
+}
+
+// Whether these bytes, of which the first is not 0, stand from a place on.
+pub fn stands(text: &[u8], at: usize, bytes: &[u8]) -> bool
+    ensures there { λ r. ⌜ (r ≡ true → Says (now (text .entry)) at (now (bytes .entry))) ⌝ }
+    ensures missing { λ r. ⌜ (r ≡ false → (byteAt (now (bytes .entry)) 0 ≡ 0 → ⊥) → Says (now (text .entry)) at (now (bytes .entry)) → ⊥) ⌝ }
+{
+    // past the end there is no byte but 0; and so the sum can't overflow
+    if text.len() <= at {
+        return false;
+    }
+    let mut i = 0;
+    while i < bytes.len() {
+        if byte(text, at + i) != bytes[i] {
+            return false;
+        }
+        i += 1;
+    }
+    true
 }
 
 pub fn letter(sign: u8) -> bool

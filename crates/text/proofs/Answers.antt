@@ -7,12 +7,12 @@ use Prim.Native.Nat.{ℕ, _≤_, _<_}
 use native.Mathlib.Omega.{arith}
 use lib.ListN.{length, take}
 use Rattle.rules.specs.Numbers.{Numbers, unfit}
+use Rattle.rules.specs.Signs.{forbidKey}
 use Rattle.rules.specs.Names.{Spot}
 use Rattle.rules.specs.Phrases.{Formula}
 use Rattle.rules.specs.Texts.{Line, Sheet, OfForm, StopsAt}
 use Rattle.rules.specs.Sheets.{refusal, sheetFault, marksOf, numbersOf, namesOf}
 use Rattle.rules.specs.Readings.{mostBytes, refused, readingOf, too-long, not-of-form, of-form}
-use Rattle.rules.proofs.Signs.{says-first}
 use Rattle.rules.proofs.MarkedNeeds.{length-lines}
 use Rattle.rules.proofs.Sheets.{counts, sheet-fit}
 use Rattle.rules.proofs.Readings.{reading-taken, reading-refused}
@@ -43,10 +43,6 @@ module _ {s : List ℕ} {sheet : Sheet} (form : OfForm s sheet) (right : sheetFa
   few : length (sheet .columns) ≤ 16
   few = counts s sheet form right .fewColumns
 
-  -- no need line stands where the end line begins
-  need-lines : NeedLines s (form .needsFrom) (form .endFrom) (sheet .needs)
-  need-lines = record { stand = form .needs; over = λ e. omega (arith, says-first (form .endSaid) .0, e) }
-
   room : length (marksOf [] (sheet .needs)) ≤ 512
   room =
       let count = counts s sheet form right in
@@ -55,12 +51,12 @@ module _ {s : List ℕ} {sheet : Sheet} (form : OfForm s sheet) (right : sheetFa
   module _ {places : Places} (at : Sectioned s sheet form places) where
     -- 512 places are enough for the marks
     pub markable : Markable s (places .needs) 512
-    markable = rw (at .needs) (record { to = form .endFrom; lines = sheet .needs; stands = need-lines; fits = room })
+    markable = rw (at .needs) (record { to = form .endFrom; lines = sheet .needs; stands = form .needs; fits = room })
 
     -- all sets are read
     pub sets-read : {count : ℕ} {new : List ℕ}
         → ((q to : ℕ) (columns : List Spot) (rows : List (Line (List Spot))) → Words s columnsFrom q columns → length columns ≤ 16
-        → Rows s 102 7 (places .forbids) to rows → length rows ≤ 32 → SetsWritten columns rows count new)
+        → Rows s forbidKey (places .forbids) to rows → length rows ≤ 32 → SetsWritten columns rows count new)
         → SetsWritten (sheet .columns) (sheet .forbids) count new
     sets-read f = f _ _ (sheet .columns) (sheet .forbids) words few (forbid-rows form at) (counts s sheet form right .fewForbids)
 
@@ -72,7 +68,7 @@ module _ {s : List ℕ} {sheet : Sheet} (form : OfForm s sheet) (right : sheetFa
     pub marks-read : {count : ℕ} {new : List ℕ}
         → ((q : ℕ) (lines : List (Line Formula)) → NeedLines s (places .needs) q lines → MarksWritten s lines count new)
         → MarksWritten s (sheet .needs) count new
-    marks-read f = f (form .endFrom) (sheet .needs) (rw (at .needs) need-lines)
+    marks-read f = f (form .endFrom) (sheet .needs) (rw (at .needs) (form .needs))
 
     -- and fill no more than 512 places
     pub marks-few : {count : ℕ} {new : List ℕ} → MarksWritten s (sheet .needs) count new → count ≤ 512

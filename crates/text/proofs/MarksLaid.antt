@@ -7,10 +7,10 @@ use native.Mathlib.Omega.{arith}
 use lib.ListN.{length, set, take, length-append, length-set}
 use lib.Seq.{take-suc-set}
 use Rattle.rules.specs.Marks.{endMark}
-use Rattle.rules.specs.Signs.{byteAt, needKey, lineEnd, says-byte}
+use Rattle.rules.specs.Signs.{byteAt, Says, needKey, lineEnd}
 use Rattle.rules.specs.Names.{Spot}
 use Rattle.rules.specs.Phrases.{Formula, ors, list, mostBrackets, Stands}
-use Rattle.rules.specs.Texts.{Line, line, Lines, no-line, one-line}
+use Rattle.rules.specs.Texts.{Line, line, no-line, one-line}
 use Rattle.rules.specs.Sheets.{marksIn, marksOf}
 use Rattle.rules.proofs.Signs.{inside}
 use Rattle.rules.proofs.Phrases.{phrase-unique, phrase-moves}
@@ -38,27 +38,20 @@ record NeedLine (s : List ℕ) (p q : ℕ) (lines : List (Line Formula)) : Type 
   ends : ℕ
   later : List (Line Formula)
   same : lines ≡ line p says ∷ later
-  stands : Stands s (list ors) mostBrackets (p + 5) ends says
+  stands : Stands s (list ors) mostBrackets (p + length needKey) ends says
   ended : byteAt s ends ≡ lineEnd
   others : NeedLines s (ends + 1) q later
 
 -- where a need line begins
-need-here : {s : List ℕ} {p q : ℕ} {lines : List (Line Formula)} → NeedLines s p q lines → byteAt s p ≡ 110 → NeedLine s p q lines
-need-here {s} {p} {q} n e = go (n .stand) (n .over)
-  where
-    go : {q : ℕ} {lines : List (Line Formula)} → Lines s needKey (Stands s (list ors) mostBrackets) p q lines → (byteAt s q ≡ 110 → ⊥)
-        → NeedLine s p q lines
-    go (no-line m) over = absurd (over e)
-    go (one-line {r} {a} {lines} said stands ended later) over =
-        record { says = a; ends = r; later = lines; same = refl; stands = stands; ended = ended; others = record { stand = later; over = over } }
+need-here : {s : List ℕ} {p q : ℕ} {lines : List (Line Formula)} → NeedLines s p q lines → Says s p needKey → NeedLine s p q lines
+need-here (no-line n) e = absurd (n e)
+need-here (one-line {r} {a} {lines} said stands ended later) e =
+    record { says = a; ends = r; later = lines; same = refl; stands = stands; ended = ended; others = later }
 
 -- where none begins there is none
-need-over : {s : List ℕ} {p q : ℕ} {lines : List (Line Formula)} → NeedLines s p q lines → (byteAt s p ≡ 110 → ⊥) → lines ≡ []
-need-over {s} {p} n f = go (n .stand)
-  where
-    go : {q : ℕ} {lines : List (Line Formula)} → Lines s needKey (Stands s (list ors) mostBrackets) p q lines → lines ≡ []
-    go (no-line m) = refl
-    go (one-line (says-byte e more) stands ended later) = absurd (f e)
+need-over : {s : List ℕ} {p q : ℕ} {lines : List (Line Formula)} → NeedLines s p q lines → (Says s p needKey → ⊥) → lines ≡ []
+need-over (no-line n) f = refl
+need-over (one-line said stands ended later) f = absurd (f said)
 
 -- the need lines before this place are read, and their marks stand; there is room for those of all lines
 pub record Laying (s : List ℕ) (from place count : ℕ) (marks : List ℕ) : Type 0 where
@@ -91,7 +84,7 @@ laying-none m =
     }
 
 module _ {s : List ℕ} {from place count : ℕ} {marks : List ℕ} (l : Laying s from place count marks) where
-  module _ (e : byteAt s place ≡ 110) where
+  module _ (e : Says s place needKey) where
     here : NeedLine s place (l .to) (l .left)
     here = need-here (l .ahead) e
 
@@ -112,11 +105,11 @@ module _ {s : List ℕ} {from place count : ℕ} {marks : List ℕ} (l : Laying 
         )
 
     -- the reader may be called
-    pub laying-asks : Readable s (list ors) (place + 5) count (length marks)
+    pub laying-asks : Readable s (list ors) (place + length needKey) count (length marks)
     laying-asks =
         record { deep = mostBrackets; to = here .ends; formula = here .says; stands = here .stands; fits = omega (arith, fits-here) }
 
-    module _ {r : Read} {new : List ℕ} (read : Marked s (list ors) (place + 5) count marks r new) (long : length new ≡ length marks) where
+    module _ {r : Read} {new : List ℕ} (read : Marked s (list ors) (place + length needKey) count marks r new) (long : length new ≡ length marks) where
       wrote : Wrote s count (here .ends) (here .says) marks r new
       wrote = read mostBrackets (here .ends) (here .says) (here .stands)
 
@@ -125,7 +118,7 @@ module _ {s : List ℕ} {from place count : ℕ} {marks : List ℕ} (l : Laying 
       laying-room =
           let at = wrote .at in
           let ends : here .ends < length s = inside s (here .ends) (λ z. omega (arith, here .ended)) in
-          let moves : place + 5 < here .ends = phrase-moves (here .stands) in
+          let moves : place + length needKey < here .ends = phrase-moves (here .stands) in
           (omega (arith, fits-here, wrote .marked, long), omega (arith, moves, at), omega (arith, ends, at))
 
       -- one line more
@@ -161,8 +154,8 @@ module _ {s : List ℕ} {from place count : ℕ} {marks : List ℕ} (l : Laying 
           }
 
   -- where no need line begins all marks stand
-  pub laying-done : (byteAt s place ≡ 110 → ⊥) → (q : ℕ) (lines : List (Line Formula)) → NeedLines s from q lines → MarksWritten s lines count marks
+  pub laying-done : (Says s place needKey → ⊥) → (q : ℕ) (lines : List (Line Formula)) → NeedLines s from q lines → MarksWritten s lines count marks
   laying-done f q lines n =
-      let same : lines ≡ l .lines = lines-unique (λ p q q′ a b. phrase-unique) (n .stand) (l .begun .stand) .1 in
+      let same : lines ≡ l .lines = lines-unique (λ p q q′ a b. phrase-unique) n (l .begun) .1 in
       let all : l .lines ≡ l .done = l .whole ∙ ap (λ (k : List (Line Formula)). l .done ++ k) (need-over (l .ahead) f) ∙ append-nil (l .done) in
       rw (same ∙ all) (record { many = l .many; marks = l .laid })

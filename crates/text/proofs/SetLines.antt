@@ -7,7 +7,7 @@ use native.Mathlib.Omega.{arith}
 use lib.ListN.{length, set, take, length-append}
 use lib.Seq.{take-suc-set}
 use Rattle.rules.specs.Sets.{empty}
-use Rattle.rules.specs.Signs.{byteAt}
+use Rattle.rules.specs.Signs.{Says, forbidKey}
 use Rattle.rules.specs.Names.{Spot}
 use Rattle.rules.specs.Texts.{Line, line}
 use Rattle.rules.specs.Sheets.{setWith}
@@ -24,22 +24,22 @@ pub record SetsLaid (columns : List Spot) (rows : List (Line (List Spot))) (coun
   pub laid : take count sets ≡ map (λ l. setWith columns empty (l .value)) done
 
 abbrev pub SetsLeft : List ℕ → List Spot → List (Line (List Spot)) → ℕ → ℕ → ℕ → List ℕ → Type 0
-SetsLeft s columns rows q place count sets = RowsLeft s 102 7 place q (SetsLaid columns rows count sets)
+SetsLeft s columns rows q place count sets = RowsLeft s forbidKey place q (SetsLaid columns rows count sets)
 
 module _ {s : List ℕ} {columns : List Spot} {rows : List (Line (List Spot))} {q : ℕ} where
   -- before the first line
-  pub sets-none : {from : ℕ} {sets : List ℕ} → Rows s 102 7 from q rows → SetsLeft s columns rows q from 0 sets
+  pub sets-none : {from : ℕ} {sets : List ℕ} → Rows s forbidKey from q rows → SetsLeft s columns rows q from 0 sets
   sets-none are = record { later = rows; rows = are; known = record { done = []; whole = refl; many = refl; laid = refl } }
 
   module _ {place count : ℕ} {sets : List ℕ} (l : SetsLeft s columns rows q place count sets) where
     -- one line more
-    pub sets-more : {next bits : ℕ} → byteAt s place ≡ 102 → count < length sets
-        → ((r : ℕ) (names : List Spot) → Words s (place + 7) r names → next ≡ r + 1)
-        → ((r : ℕ) (names : List Spot) → Words s (place + 7) r names → bits ≡ setWith columns empty names)
+    pub sets-more : {next bits : ℕ} → Says s place forbidKey → count < length sets
+        → ((r : ℕ) (names : List Spot) → Words s (place + length forbidKey) r names → next ≡ r + 1)
+        → ((r : ℕ) (names : List Spot) → Words s (place + length forbidKey) r names → bits ≡ setWith columns empty names)
         → SetsLeft s columns rows q next (count + 1) (set sets count bits)
     sets-more {next} {bits} e room ends is = row-next l e ends more
       where
-        more : (r : ℕ) (names : List Spot) (later : List (Line (List Spot))) → Words s (place + 7) r names
+        more : (r : ℕ) (names : List Spot) (later : List (Line (List Spot))) → Words s (place + length forbidKey) r names
             → SetsLaid columns rows count sets (line place names ∷ later) → SetsLaid columns rows (count + 1) (set sets count bits) later
         more r names later w k =
             let x : Line (List Spot) = line place names in
@@ -58,7 +58,7 @@ module _ {s : List ℕ} {columns : List Spot} {rows : List (Line (List Spot))} {
     sets-all k = rw (k .whole ∙ append-nil (k .done)) (record { many = k .many; sets = k .laid })
 
     -- where no forbid line begins all sets stand
-    pub sets-end : (byteAt s place ≡ 102 → ⊥) → SetsWritten columns rows count sets
+    pub sets-end : (Says s place forbidKey → ⊥) → SetsWritten columns rows count sets
     sets-end n = sets-all (row-end l n .1)
 
     -- nor can there be more lines than places

@@ -4,7 +4,7 @@ use mathlib.Core.List.{List, [], map}
 use Prim.Native.Nat.{ℕ, _≤_}
 use lib.ListN.{length, take}
 use Rattle.rules.specs.Sets.{empty}
-use Rattle.rules.specs.Signs.{byteAt, needKey}
+use Rattle.rules.specs.Signs.{needKey}
 use Rattle.rules.specs.Names.{Spot}
 use Rattle.rules.specs.Phrases.{Formula, ors, list, mostBrackets, Stands}
 use Rattle.rules.specs.Texts.{Line, Lines}
@@ -16,10 +16,9 @@ pub record SetsWritten (columns : List Spot) (rows : List (Line (List Spot))) (c
   pub many : count ≡ length rows
   pub sets : take count new ≡ map (λ l. setWith columns empty (l .value)) rows
 
--- need lines from place p to before place q, where another line begins
-pub record NeedLines (s : List ℕ) (p q : ℕ) (lines : List (Line Formula)) : Type 0 where
-  pub stand : Lines s needKey (Stands s (list ors) mostBrackets) p q lines
-  pub over : byteAt s q ≡ 110 → ⊥
+-- need lines from place p to before place q; no need line follows
+abbrev pub NeedLines : List ℕ → ℕ → ℕ → List (Line Formula) → Type 0
+NeedLines s = Lines s needKey (Stands s (list ors) mostBrackets)
 
 -- there is room for the marks of the need lines from place p on
 pub record Markable (s : List ℕ) (p room : ℕ) : Type 0 where

@@ -1,9 +1,8 @@
 // The marks of the needs of a text.
 use faults::sections::Section;
-use faults::sections::begins;
+use faults::sections::key_stands;
 use faults::sections::width;
 use job::rows::END_MARK;
-use naming::signs::byte;
 use phrases::or_list;
 ghost use mathlib.Core.Path.{_≡_};
 ghost use mathlib.Core.List.{List};
@@ -19,11 +18,10 @@ pub fn need_marks(text: &[u8], from: usize, marks: &mut [u16]) -> usize
     ensures { λ r. ⌜ ((q : ℕ) (lines : List (Line Formula)) → NeedLines (now (text .entry)) from q lines
         → MarksWritten (now (text .entry)) lines r (now (marks .exit))) ⌝ }
 {
-    let first = begins(Section::Need);
     let before = width(Section::Need);
     let mut count: usize = 0;
     let mut place = from;
-    while byte(text, place) == first {
+    while key_stands(text, Section::Need, place) {
         let read = or_list(text, place + before, marks, count);
         let last = read.marked;
         marks[last] = END_MARK;

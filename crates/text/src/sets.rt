@@ -1,7 +1,7 @@
 // The forbidden sets of a text.
 use columns::ColumnSet;
 use faults::sections::Section;
-use faults::sections::begins;
+use faults::sections::key_stands;
 use faults::sections::next_line;
 use faults::sections::width;
 use naming::known::column_in;
@@ -14,6 +14,7 @@ ghost use mathlib.Core.List.{List};
 ghost use Prim.Native.Nat.{ℕ, _≤_};
 ghost use lib.ListN.{length};
 ghost use Rattle.rules.specs.Sets.{empty};
+ghost use Rattle.rules.specs.Signs.{forbidKey};
 ghost use Rattle.rules.specs.Names.{Spot};
 ghost use Rattle.rules.specs.Texts.{Line};
 ghost use Rattle.rules.specs.Sheets.{setWith};
@@ -39,15 +40,14 @@ fn set_of(text: &[u8], from: usize) -> u16
 // Writes the sets of the forbid lines from a place on over the first places of the slice, as far as there are places, and says how many.
 pub fn forbidden_sets(text: &[u8], from: usize, sets: &mut [u16]) -> usize
     ensures { λ r. ⌜ ((q to : ℕ) (columns : List Spot) (rows : List (Line (List Spot))) → Words (now (text .entry)) columnsFrom q columns
-        → length columns ≤ 16 → Rows (now (text .entry)) 102 7 from to rows → length rows ≤ length (now (sets .entry))
+        → length columns ≤ 16 → Rows (now (text .entry)) forbidKey from to rows → length rows ≤ length (now (sets .entry))
         → SetsWritten columns rows r (now (sets .exit))) ⌝ }
 {
-    let first = begins(Section::Forbid);
     let before = width(Section::Forbid);
     let mut count: usize = 0;
     let mut place = from;
     while count < sets.len() {
-        if byte(text, place) != first {
+        if !key_stands(text, Section::Forbid, place) {
             return count;
         }
         sets[count] = set_of(text, place + before);

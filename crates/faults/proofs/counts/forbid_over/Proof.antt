@@ -4,38 +4,36 @@ use mathlib.Core.List.{List}
 use Prim.Native.Nat.{ℕ, _-_, _<_, _≤_}
 use native.Mathlib.Omega.{arith}
 use lib.ListN.{length}
+use Rattle.rules.specs.Signs.{forbidKey}
 use Rattle.rules.specs.Names.{Spot}
 use Rattle.rules.specs.Texts.{Line, line}
 use Rattle.rules.specs.Sheets.{lineAfter}
 use Rattle.naming.specs.Words.{Rows}
 use Rattle.faults.specs.declared.sections.Section.the-variants.{Forbid}
-use Rattle.faults.proofs.Left.{told-same, told-other, line-inside, RowsLeft, row-here, row-next, row-end}
+use Rattle.faults.proofs.Left.{key-inside, RowsLeft, row-here, row-next, row-end}
 use Rattle.faults.proofs.Counted.{too-many, not-many, no-line-after, line-after, line-counted}
 use borrow.Author.Needs.{needs}
 use Rattle.faults.proofs.counts.forbid_over.Statement.{statement}
 use Rattle.faults.proofs.counts.forbid_over.Tie as tie
 
 abbrev Inv-loop : tie.InvT-loop
-Inv-loop text from first count₀ place₀ count place =
-    (count ≤ 32) × ((q : ℕ) (rows : List (Line (List Spot))) → Rows text 102 7 from q rows
-    → RowsLeft text 102 7 place q (λ later. lineAfter 32 rows ≡ lineAfter (32 - count) later))
+Inv-loop text from count₀ place₀ count place =
+    (count ≤ 32) × ((q : ℕ) (rows : List (Line (List Spot))) → Rows text forbidKey from q rows
+    → RowsLeft text forbidKey place q (λ later. lineAfter 32 rows ≡ lineAfter (32 - count) later))
 
 abbrev μ-loop : tie.MeasureT-loop
-μ-loop text from first count₀ place₀ count place = length text - place
-
-begins-requires : tie.Need-begins-requires Inv-loop μ-loop
-begins-requires c κs = search needs
+μ-loop text from count₀ place₀ count place = length text - place
 
 loop-holds : tie.Need-loop-holds Inv-loop μ-loop
 loop-holds c = (omega arith, λ q rows r. record { later = rows; rows = r; known = refl })
 
-byte-requires : tie.Need-byte-requires Inv-loop μ-loop
-byte-requires c κs = search needs
+key-stands-requires : tie.Need-key-stands-requires Inv-loop μ-loop
+key-stands-requires c κs = search needs
 
 returns : tie.Need-returns Inv-loop μ-loop
 returns c =
     let l = c .before .before .before .loop in
-    let here = told-same (c .before .before .byte .ensures) (c .before .before .before .before .begins .ensures) (c .before .if1 .taken) in
+    let here = c .before .before .key-stands .ensures .0 (c .before .if1 .taken) in
     λ q rows r. let h = row-here (l .inv .1 q rows r) here in
     too-many (l .place) (h .4 ∙ line-after 32 (l .count) (line (l .place) (h .1)) (h .2) (c .if2 .taken))
 
@@ -44,21 +42,20 @@ add-count c = search needs
 
 next-line-requires : tie.Need-next-line-requires Inv-loop μ-loop
 next-line-requires c κs =
-    let text = c .before .before .before .before .before .before .args .text .now in
-    let here = told-same (c .before .before .byte .ensures) (c .before .before .before .before .begins .ensures) (c .before .if1 .taken) in
-    line-inside text Forbid here
+    let here = c .before .before .key-stands .ensures .0 (c .before .if1 .taken) in
+    omega (arith, key-inside Forbid here)
 
 loop-less : tie.Need-loop-less Inv-loop μ-loop
 loop-less c =
     let t = c .before .before in
-    let here = told-same (t .before .byte .ensures) (t .before .before .before .begins .ensures) (t .if1 .taken) in
-    let h = line-inside (t .before .before .before .before .before .args .text .now) Forbid here in
+    let here = t .before .key-stands .ensures .0 (t .if1 .taken) in
+    let h = key-inside Forbid here in
     omega (arith, c .next-line .ensures .0)
 
 loop-again : tie.Need-loop-again Inv-loop μ-loop
 loop-again c =
     let t = c .before .before in
-    let here = told-same (t .before .byte .ensures) (t .before .before .before .begins .ensures) (t .if1 .taken) in
+    let here = t .before .key-stands .ensures .0 (t .if1 .taken) in
     let l = t .before .before .loop in
     let more : l .count < 32 = omega (arith, l .inv .0, c .before .if2 .left) in (
       omega arith,
@@ -73,7 +70,7 @@ returns-2 : tie.Need-returns-2 Inv-loop μ-loop
 returns-2 c =
     let t = c .before in
     let l = t .before .before .loop in
-    let other = told-other (t .before .byte .ensures) (t .before .before .before .begins .ensures) (t .if1 .left) in
+    let other = t .before .key-stands .ensures .1 (t .if1 .left) in
     λ q rows r. not-many (c .no-fault .result) (c .no-fault .ensures) (row-end (l .inv .1 q rows r) other .1 ∙ no-line-after (32 - l .count))
 
 pub forbid-over-spec : {M : Type 1} → statement M
@@ -82,9 +79,8 @@ forbid-over-spec =
     (tie.spec
     Inv-loop
     μ-loop
-    begins-requires
     loop-holds
-    byte-requires
+    key-stands-requires
     returns
     add-count
     next-line-requires

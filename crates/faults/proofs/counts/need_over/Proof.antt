@@ -5,27 +5,25 @@ use mathlib.Core.List.{List}
 use Prim.Native.Nat.{ℕ, _-_, _<_, _≤_}
 use native.Mathlib.Omega.{arith}
 use lib.ListN.{length}
+use Rattle.rules.specs.Signs.{needKey}
 use Rattle.rules.specs.Names.{Spot}
 use Rattle.rules.specs.Texts.{Line, line}
 use Rattle.naming.specs.Words.{Rows}
 use Rattle.faults.specs.Kinds.{rowsOver}
 use Rattle.faults.specs.declared.sections.Section.the-variants.{Need}
-use Rattle.faults.proofs.Left.{told-same, told-other, line-inside, RowsLeft, row-here, row-next, row-end}
+use Rattle.faults.proofs.Left.{key-inside, RowsLeft, row-here, row-next, row-end}
 use Rattle.faults.proofs.Counted.{too-many, not-many, no-row-over, row-over, row-refused, row-passed}
 use borrow.Author.Needs.{needs}
 use Rattle.faults.proofs.counts.need_over.Statement.{statement}
 use Rattle.faults.proofs.counts.need_over.Tie as tie
 
 abbrev Inv-loop : tie.InvT-loop
-Inv-loop text from first before count₀ place₀ count place =
-    (count ≤ 8) × ((q : ℕ) (rows : List (Line (List Spot))) → Rows text 110 5 from q rows
-    → RowsLeft text 110 5 place q (λ later. rowsOver 8 rows ≡ rowsOver (8 - count) later))
+Inv-loop text from before count₀ place₀ count place =
+    (count ≤ 8) × ((q : ℕ) (rows : List (Line (List Spot))) → Rows text needKey from q rows
+    → RowsLeft text needKey place q (λ later. rowsOver 8 rows ≡ rowsOver (8 - count) later))
 
 abbrev μ-loop : tie.MeasureT-loop
-μ-loop text from first before count₀ place₀ count place = length text - place
-
-begins-requires : tie.Need-begins-requires Inv-loop μ-loop
-begins-requires c κs = search needs
+μ-loop text from before count₀ place₀ count place = length text - place
 
 width-requires : tie.Need-width-requires Inv-loop μ-loop
 width-requires c κs = search needs
@@ -33,13 +31,13 @@ width-requires c κs = search needs
 loop-holds : tie.Need-loop-holds Inv-loop μ-loop
 loop-holds c = (omega arith, λ q rows r. record { later = rows; rows = r; known = refl })
 
-byte-requires : tie.Need-byte-requires Inv-loop μ-loop
-byte-requires c κs = search needs
+key-stands-requires : tie.Need-key-stands-requires Inv-loop μ-loop
+key-stands-requires c κs = search needs
 
 returns : tie.Need-returns Inv-loop μ-loop
 returns c =
     let t = c .before in
-    let here = told-same (t .before .byte .ensures) (t .before .before .before .before .begins .ensures) (t .if1 .taken) in
+    let here = t .before .key-stands .ensures .0 (t .if1 .taken) in
     let l = t .before .before .loop in
     λ q rows r. let h = row-here (l .inv .1 q rows r) here in
     too-many (l .place) (h .4 ∙ row-over 8 (l .count) (line (l .place) (h .1)) (h .2) (c .if2 .taken))
@@ -47,8 +45,8 @@ returns c =
 add-name-over : tie.Need-add-name-over Inv-loop μ-loop
 add-name-over c =
     let t = c .before in
-    let here = told-same (t .before .byte .ensures) (t .before .before .before .before .begins .ensures) (t .if1 .taken) in
-    let h = line-inside (t .before .before .before .before .before .before .args .text .now) Need here in
+    let here = t .before .key-stands .ensures .0 (t .if1 .taken) in
+    let h = key-inside Need here in
     omega (arith, t .before .before .before .width .ensures)
 
 name-over-requires : tie.Need-name-over-requires Inv-loop μ-loop
@@ -58,7 +56,7 @@ returns-2 : tie.Need-returns-2 Inv-loop μ-loop
 returns-2 c =
     let n = c .before .before in
     let t = n .before .before in
-    let here = told-same (t .before .byte .ensures) (t .before .before .before .before .begins .ensures) (t .if1 .taken) in
+    let here = t .before .key-stands .ensures .0 (t .if1 .taken) in
     let l = t .before .before .loop in
     let more : l .count < 8 = omega (arith, l .inv .0, n .before .if2 .left) in
     λ q rows r. let h = row-here (l .inv .1 q rows r) here in
@@ -72,21 +70,21 @@ add-count c = search needs
 next-line-requires : tie.Need-next-line-requires Inv-loop μ-loop
 next-line-requires c κs =
     let t = c .before .before .before .before in
-    let here = told-same (t .before .byte .ensures) (t .before .before .before .before .begins .ensures) (t .if1 .taken) in
-    line-inside (t .before .before .before .before .before .before .args .text .now) Need here
+    let here = t .before .key-stands .ensures .0 (t .if1 .taken) in
+    omega (arith, key-inside Need here)
 
 loop-less : tie.Need-loop-less Inv-loop μ-loop
 loop-less c =
     let t = c .before .before .before .before .before in
-    let here = told-same (t .before .byte .ensures) (t .before .before .before .before .begins .ensures) (t .if1 .taken) in
-    let h = line-inside (t .before .before .before .before .before .before .args .text .now) Need here in
+    let here = t .before .key-stands .ensures .0 (t .if1 .taken) in
+    let h = key-inside Need here in
     omega (arith, c .next-line .ensures .0)
 
 loop-again : tie.Need-loop-again Inv-loop μ-loop
 loop-again c =
     let n = c .before .before .before in
     let t = n .before .before in
-    let here = told-same (t .before .byte .ensures) (t .before .before .before .before .begins .ensures) (t .if1 .taken) in
+    let here = t .before .key-stands .ensures .0 (t .if1 .taken) in
     let l = t .before .before .loop in
     let more : l .count < 8 = omega (arith, l .inv .0, n .before .if2 .left) in (
       omega arith,
@@ -103,7 +101,7 @@ returns-3 : tie.Need-returns-3 Inv-loop μ-loop
 returns-3 c =
     let t = c .before in
     let l = t .before .before .loop in
-    let other = told-other (t .before .byte .ensures) (t .before .before .before .before .begins .ensures) (t .if1 .left) in
+    let other = t .before .key-stands .ensures .1 (t .if1 .left) in
     λ q rows r. not-many (c .no-fault .result) (c .no-fault .ensures) (row-end (l .inv .1 q rows r) other .1 ∙ no-row-over (8 - l .count))
 
 pub need-over-spec : {M : Type 1} → statement M
@@ -112,10 +110,9 @@ need-over-spec =
     (tie.spec
     Inv-loop
     μ-loop
-    begins-requires
     width-requires
     loop-holds
-    byte-requires
+    key-stands-requires
     returns
     add-name-over
     name-over-requires

@@ -7,9 +7,6 @@ use borrow.Author.Needs.{needs}
 use Rattle.faults.proofs.counts.over.Statement.{statement}
 use Rattle.faults.proofs.counts.over.Tie as tie
 
-width-requires : tie.Need-width-requires
-width-requires c κs = search needs
-
 name-over-requires : tie.Need-name-over-requires
 name-over-requires c κs = search needs
 
@@ -17,7 +14,7 @@ returns : tie.Need-returns
 returns c =
     let n = c .before .before in
     λ sheet form at.
-    refused (n .name-over .result) (n .name-over .ensures (form .columnsTo) (sheet .columns) (rw (n .before .width .ensures) (laid form .columns))) _
+    refused (n .name-over .result) (n .name-over .ensures (form .columnsTo) (sheet .columns) (laid form .columns)) _
     (c .if1 .taken)
     ∙ sym (over-parts sheet)
 
@@ -30,7 +27,7 @@ returns-2 c =
     let n = f .before .before .before in
     λ sheet form at.
     second-refused (n .name-over .result) (f .forbid-over .result) _
-    (n .name-over .ensures (form .columnsTo) (sheet .columns) (rw (n .before .width .ensures) (laid form .columns))) (f .before .if1 .left)
+    (n .name-over .ensures (form .columnsTo) (sheet .columns) (laid form .columns)) (f .before .if1 .left)
     (f .forbid-over .ensures (form .needsFrom) (sheet .forbids) (forbid-rows form at)) (c .if2 .taken)
     ∙ sym (over-parts sheet)
 
@@ -43,7 +40,7 @@ returns-3 c =
     let n = f .before .before .before in
     λ sheet form at.
     third-refused (n .name-over .result) (f .forbid-over .result) (c .need-over .result)
-    (n .name-over .ensures (form .columnsTo) (sheet .columns) (rw (n .before .width .ensures) (laid form .columns))) (f .before .if1 .left)
+    (n .name-over .ensures (form .columnsTo) (sheet .columns) (laid form .columns)) (f .before .if1 .left)
     (f .forbid-over .ensures (form .needsFrom) (sheet .forbids) (forbid-rows form at)) (c .before .if2 .left)
     (c .need-over .ensures (form .endFrom) _ (need-rows form at))
     ∙ sym (over-parts sheet)
@@ -52,7 +49,6 @@ pub over-spec : {M : Type 1} → statement M
 over-spec =
     tie.close
     (tie.spec
-    width-requires
     name-over-requires
     returns
     forbid-over-requires

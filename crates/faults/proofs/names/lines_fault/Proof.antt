@@ -8,25 +8,22 @@ use Rattle.rules.specs.Names.{Spot}
 use Rattle.rules.specs.Texts.{Line, line}
 use Rattle.rules.specs.Sheets.{linesFault}
 use Rattle.naming.specs.Words.{Words, Rows, columnsFrom}
-use Rattle.faults.specs.Kinds.{beginsOf, widthOf, faultBy}
-use Rattle.faults.proofs.Left.{told-same, told-other, line-inside, width-bounds, RowsLeft, row-here, row-next, row-end}
+use Rattle.faults.specs.Kinds.{keyOf, faultBy}
+use Rattle.faults.proofs.Left.{key-inside, width-bounds, RowsLeft, row-here, row-next, row-end}
 use Rattle.faults.proofs.Tested.{line-faulty, line-right, no-line-faulty}
 use borrow.Author.Needs.{needs}
 use Rattle.faults.proofs.names.lines_fault.Statement.{statement}
 use Rattle.faults.proofs.names.lines_fault.Tie as tie
 
 abbrev Inv-loop : tie.InvT-loop
-Inv-loop text section from first before place₀ place =
+Inv-loop text section from before place₀ place =
     (q to : ℕ) (columns : List Spot) (rows : List (Line (List Spot))) → Words text columnsFrom q columns → length columns ≤ 16
-    → Rows text (beginsOf section) (widthOf section) from to rows
-    → RowsLeft text (beginsOf section) (widthOf section) place to
+    → Rows text (keyOf section) from to rows
+    → RowsLeft text (keyOf section) place to
     (λ later. linesFault (faultBy section columns) (map (λ l. l .value) rows) ≡ linesFault (faultBy section columns) (map (λ l. l .value) later))
 
 abbrev μ-loop : tie.MeasureT-loop
-μ-loop text section from first before place₀ place = length text - place
-
-begins-requires : tie.Need-begins-requires Inv-loop μ-loop
-begins-requires c κs = search needs
+μ-loop text section from before place₀ place = length text - place
 
 width-requires : tie.Need-width-requires Inv-loop μ-loop
 width-requires c κs = search needs
@@ -34,15 +31,15 @@ width-requires c κs = search needs
 loop-holds : tie.Need-loop-holds Inv-loop μ-loop
 loop-holds c = λ q to columns rows k few r. record { later = rows; rows = r; known = refl }
 
-byte-requires : tie.Need-byte-requires Inv-loop μ-loop
-byte-requires c κs = search needs
+key-stands-requires : tie.Need-key-stands-requires Inv-loop μ-loop
+key-stands-requires c κs = search needs
 
 add-line-fault : tie.Need-add-line-fault Inv-loop μ-loop
 add-line-fault c =
     let t = c in
-    let a = t .before .before .before .before .before .before .args in
-    let here = told-same (t .before .byte .ensures) (t .before .before .before .before .begins .ensures) (t .if1 .taken) in
-    let h = line-inside (a .text .now) (a .section) here in
+    let a = t .before .before .before .before .before .args in
+    let here = t .before .key-stands .ensures .0 (t .if1 .taken) in
+    let h = key-inside (a .section) here in
     omega (arith, t .before .before .before .width .ensures, width-bounds (a .section))
 
 line-fault-requires : tie.Need-line-fault-requires Inv-loop μ-loop
@@ -52,8 +49,8 @@ returns : tie.Need-returns Inv-loop μ-loop
 returns c =
     let n = c .before .before in
     let t = n .before in
-    let a = t .before .before .before .before .before .before .args in
-    let here = told-same (t .before .byte .ensures) (t .before .before .before .before .begins .ensures) (t .if1 .taken) in
+    let a = t .before .before .before .before .before .args in
+    let here = t .before .key-stands .ensures .0 (t .if1 .taken) in
     let l = t .before .before .loop in
     λ q to columns rows k few r.
     let h = row-here (l .inv q to columns rows k few r) here in
@@ -64,24 +61,24 @@ returns c =
 next-line-requires : tie.Need-next-line-requires Inv-loop μ-loop
 next-line-requires c κs =
     let t = c .before .before .before in
-    let a = t .before .before .before .before .before .before .args in
-    let here = told-same (t .before .byte .ensures) (t .before .before .before .before .begins .ensures) (t .if1 .taken) in
-    line-inside (a .text .now) (a .section) here
+    let a = t .before .before .before .before .before .args in
+    let here = t .before .key-stands .ensures .0 (t .if1 .taken) in
+    omega (arith, key-inside (a .section) here)
 
 loop-less : tie.Need-loop-less Inv-loop μ-loop
 loop-less c =
     let t = c .before .before .before .before in
-    let a = t .before .before .before .before .before .before .args in
-    let here = told-same (t .before .byte .ensures) (t .before .before .before .before .begins .ensures) (t .if1 .taken) in
-    let h = line-inside (a .text .now) (a .section) here in
+    let a = t .before .before .before .before .before .args in
+    let here = t .before .key-stands .ensures .0 (t .if1 .taken) in
+    let h = key-inside (a .section) here in
     omega (arith, c .next-line .ensures .0)
 
 loop-again : tie.Need-loop-again Inv-loop μ-loop
 loop-again c =
     let n = c .before .before .before in
     let t = n .before in
-    let a = t .before .before .before .before .before .before .args in
-    let here = told-same (t .before .byte .ensures) (t .before .before .before .before .begins .ensures) (t .if1 .taken) in
+    let a = t .before .before .before .before .before .args in
+    let here = t .before .key-stands .ensures .0 (t .if1 .taken) in
     let l = t .before .before .loop in
     λ q to columns rows k few r.
     row-next (l .inv q to columns rows k few r) here (c .next-line .ensures .1)
@@ -95,9 +92,9 @@ no-fault-requires c κs = search needs
 returns-2 : tie.Need-returns-2 Inv-loop μ-loop
 returns-2 c =
     let t = c .before in
-    let a = t .before .before .before .before .before .before .args in
+    let a = t .before .before .before .before .before .args in
     let l = t .before .before .loop in
-    let other = told-other (t .before .byte .ensures) (t .before .before .before .before .begins .ensures) (t .if1 .left) in
+    let other = t .before .key-stands .ensures .1 (t .if1 .left) in
     λ q to columns rows k few r.
     c .no-fault .ensures ∙ sym (row-end (l .inv q to columns rows k few r) other .1 ∙ no-line-faulty (faultBy (a .section) columns))
 
@@ -107,10 +104,9 @@ lines-fault-spec =
     (tie.spec
     Inv-loop
     μ-loop
-    begins-requires
     width-requires
     loop-holds
-    byte-requires
+    key-stands-requires
     add-line-fault
     line-fault-requires
     returns

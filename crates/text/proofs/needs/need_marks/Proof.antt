@@ -3,54 +3,52 @@ use mathlib.Core.Path.{_≡_, refl, _∙_}
 use Prim.Native.Nat.{_-_}
 use native.Mathlib.Omega.{arith}
 use lib.ListN.{length, length-set}
-use Rattle.faults.proofs.Left.{told-same, told-other, byte-inside}
+use Rattle.faults.specs.declared.sections.Section.the-variants.{Need}
+use Rattle.faults.proofs.Left.{key-inside}
 use Rattle.text.proofs.MarksLaid.{Laying, laying-none, laying-asks, laying-room, laying-more, laying-done}
 use borrow.Author.Needs.{needs}
 use Rattle.text.proofs.needs.need_marks.Statement.{statement}
 use Rattle.text.proofs.needs.need_marks.Tie as tie
 
 abbrev Inv-loop : tie.InvT-loop
-Inv-loop text from marks₀ first before count₀ place₀ marks count place = (length marks ≡ length marks₀) × Laying text from place count marks
+Inv-loop text from marks₀ before count₀ place₀ marks count place = (length marks ≡ length marks₀) × Laying text from place count marks
 
 abbrev μ-loop : tie.MeasureT-loop
-μ-loop text from marks₀ first before count₀ place₀ marks count place = length text - place
-
-begins-requires : tie.Need-begins-requires Inv-loop μ-loop
-begins-requires c κs = search needs
+μ-loop text from marks₀ before count₀ place₀ marks count place = length text - place
 
 width-requires : tie.Need-width-requires Inv-loop μ-loop
 width-requires c κs = search needs
 
 loop-holds : tie.Need-loop-holds Inv-loop μ-loop
-loop-holds c = (refl, laying-none (c .before .before .before .before .pre))
+loop-holds c = (refl, laying-none (c .before .before .before .pre))
 
-byte-requires : tie.Need-byte-requires Inv-loop μ-loop
-byte-requires c κs = search needs
+key-stands-requires : tie.Need-key-stands-requires Inv-loop μ-loop
+key-stands-requires c κs = search needs
 
 add-or-list : tie.Need-add-or-list Inv-loop μ-loop
 add-or-list c =
-    let here = told-same (c .before .byte .ensures) (c .before .before .before .before .begins .ensures) (c .if1 .taken) in
-    omega (arith, byte-inside (c .before .before .before .before .before .before .before .args .text .now) here (λ z. omega arith), c .before .before .before .width .ensures, c .before .before .before .before .before .before .before .good)
+    let here = c .before .key-stands .ensures .0 (c .if1 .taken) in
+    omega (arith, key-inside Need here, c .before .before .before .width .ensures, c .before .before .before .before .before .before .good)
 
 or-list-requires : tie.Need-or-list-requires Inv-loop μ-loop
 or-list-requires c κs =
-    let here = told-same (c .before .before .byte .ensures) (c .before .before .before .before .before .begins .ensures) (c .before .if1 .taken) in
+    let here = c .before .before .key-stands .ensures .0 (c .before .if1 .taken) in
     rw (c .before .before .before .before .width .ensures) (laying-asks (c .before .before .before .loop .inv .1) here)
 
 mul-marks : tie.Need-mul-marks Inv-loop μ-loop
 mul-marks c =
     let l = c .before .before .before .before .before .before .loop in
     let read = c .before .before .or-list in
-    let here = told-same (c .before .before .before .before .before .byte .ensures) (c .before .before .before .before .before .before .before .before .begins .ensures) (c .before .before .before .before .if1 .taken) in
+    let here = c .before .before .before .before .before .key-stands .ensures .0 (c .before .before .before .before .if1 .taken) in
     let marked = rw (c .before .before .before .before .before .before .before .width .ensures) at (read .ensures) in
     let room = laying-room (l .inv .1) here marked (read .kept .1 .1 .0) in
-    omega (arith, room, read .kept .1 .1 .0, l .inv .0, c .before .before .before .before .before .before .before .before .before .before .before .good)
+    omega (arith, room, read .kept .1 .1 .0, l .inv .0, c .before .before .before .before .before .before .before .before .before .before .good)
 
 slice-write-marks : tie.Need-slice-write-marks Inv-loop μ-loop
 slice-write-marks c =
     let l = c .before .before .before .before .before .before .loop in
     let read = c .before .before .or-list in
-    let here = told-same (c .before .before .before .before .before .byte .ensures) (c .before .before .before .before .before .before .before .before .begins .ensures) (c .before .before .before .before .if1 .taken) in
+    let here = c .before .before .before .before .before .key-stands .ensures .0 (c .before .before .before .before .if1 .taken) in
     let marked = rw (c .before .before .before .before .before .before .before .width .ensures) at (read .ensures) in
     let room = laying-room (l .inv .1) here marked (read .kept .1 .1 .0) in
     room .0
@@ -59,25 +57,25 @@ add-count : tie.Need-add-count Inv-loop μ-loop
 add-count c =
     let l = c .before .before .before .before .before .before .loop in
     let read = c .before .before .or-list in
-    let here = told-same (c .before .before .before .before .before .byte .ensures) (c .before .before .before .before .before .before .before .before .begins .ensures) (c .before .before .before .before .if1 .taken) in
+    let here = c .before .before .before .before .before .key-stands .ensures .0 (c .before .before .before .before .if1 .taken) in
     let marked = rw (c .before .before .before .before .before .before .before .width .ensures) at (read .ensures) in
     let room = laying-room (l .inv .1) here marked (read .kept .1 .1 .0) in
-    omega (arith, room, read .kept .1 .1 .0, l .inv .0, c .before .before .before .before .before .before .before .before .before .before .before .good)
+    omega (arith, room, read .kept .1 .1 .0, l .inv .0, c .before .before .before .before .before .before .before .before .before .before .good)
 
 add-place : tie.Need-add-place Inv-loop μ-loop
 add-place c =
     let l = c .before .before .before .before .before .before .before .loop in
     let read = c .before .before .before .or-list in
-    let here = told-same (c .before .before .before .before .before .before .byte .ensures) (c .before .before .before .before .before .before .before .before .before .begins .ensures) (c .before .before .before .before .before .if1 .taken) in
+    let here = c .before .before .before .before .before .before .key-stands .ensures .0 (c .before .before .before .before .before .if1 .taken) in
     let marked = rw (c .before .before .before .before .before .before .before .before .width .ensures) at (read .ensures) in
     let room = laying-room (l .inv .1) here marked (read .kept .1 .1 .0) in
-    omega (arith, room, c .before .before .before .before .before .before .before .before .before .before .before .before .good)
+    omega (arith, room, c .before .before .before .before .before .before .before .before .before .before .before .good)
 
 loop-less : tie.Need-loop-less Inv-loop μ-loop
 loop-less c =
     let l = c .before .before .before .before .before .before .before .loop in
     let read = c .before .before .before .or-list in
-    let here = told-same (c .before .before .before .before .before .before .byte .ensures) (c .before .before .before .before .before .before .before .before .before .begins .ensures) (c .before .before .before .before .before .if1 .taken) in
+    let here = c .before .before .before .before .before .before .key-stands .ensures .0 (c .before .before .before .before .before .if1 .taken) in
     let marked = rw (c .before .before .before .before .before .before .before .before .width .ensures) at (read .ensures) in
     let room = laying-room (l .inv .1) here marked (read .kept .1 .1 .0) in
     omega (arith, room)
@@ -86,7 +84,7 @@ loop-again : tie.Need-loop-again Inv-loop μ-loop
 loop-again c =
     let l = c .before .before .before .before .before .before .before .loop in
     let read = c .before .before .before .or-list in
-    let here = told-same (c .before .before .before .before .before .before .byte .ensures) (c .before .before .before .before .before .before .before .before .before .begins .ensures) (c .before .before .before .before .before .if1 .taken) in
+    let here = c .before .before .before .before .before .before .key-stands .ensures .0 (c .before .before .before .before .before .if1 .taken) in
     let marked = rw (c .before .before .before .before .before .before .before .before .width .ensures) at (read .ensures) in
     let room = laying-room (l .inv .1) here marked (read .kept .1 .1 .0) in
     let long = read .kept .1 .1 .0 in
@@ -97,7 +95,7 @@ same-length c = search needs
 
 returns : tie.Need-returns Inv-loop μ-loop
 returns c =
-    let other = told-other (c .before .byte .ensures) (c .before .before .before .before .begins .ensures) (c .if1 .left) in
+    let other = c .before .key-stands .ensures .1 (c .if1 .left) in
     laying-done (c .before .before .loop .inv .1) other
 
 pub need-marks-spec : {M : Type 1} → statement M
@@ -106,10 +104,9 @@ need-marks-spec =
     (tie.spec
     Inv-loop
     μ-loop
-    begins-requires
     width-requires
     loop-holds
-    byte-requires
+    key-stands-requires
     add-or-list
     or-list-requires
     mul-marks

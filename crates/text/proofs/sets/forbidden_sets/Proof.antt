@@ -4,26 +4,26 @@ use mathlib.Core.List.{List}
 use Prim.Native.Nat.{ℕ, _-_, _≤_}
 use native.Mathlib.Omega.{arith}
 use lib.ListN.{length, length-set}
+use borrow.Author.Tests.{not-true, not-false}
+use Rattle.rules.specs.Signs.{forbidKey}
 use Rattle.rules.specs.Names.{Spot}
 use Rattle.rules.specs.Texts.{Line}
 use Rattle.naming.specs.Words.{Words, Rows, columnsFrom}
-use Rattle.faults.proofs.Left.{told-same, told-other, byte-inside}
+use Rattle.faults.specs.declared.sections.Section.the-variants.{Forbid}
+use Rattle.faults.proofs.Left.{key-inside}
 use Rattle.text.proofs.SetLines.{SetsLeft, sets-none, sets-more, sets-end, sets-full}
 use borrow.Author.Needs.{needs}
 use Rattle.text.proofs.sets.forbidden_sets.Statement.{statement}
 use Rattle.text.proofs.sets.forbidden_sets.Tie as tie
 
 abbrev Inv-loop : tie.InvT-loop
-Inv-loop text from sets₀ first before count₀ place₀ sets count place =
+Inv-loop text from sets₀ before count₀ place₀ sets count place =
     (count ≤ length sets) × (length sets ≡ length sets₀)
     × ((q to : ℕ) (columns : List Spot) (rows : List (Line (List Spot))) → Words text columnsFrom q columns → length columns ≤ 16
-    → Rows text 102 7 from to rows → SetsLeft text columns rows to place count sets)
+    → Rows text forbidKey from to rows → SetsLeft text columns rows to place count sets)
 
 abbrev μ-loop : tie.MeasureT-loop
-μ-loop text from sets₀ first before count₀ place₀ sets count place = length sets - count
-
-begins-requires : tie.Need-begins-requires Inv-loop μ-loop
-begins-requires c κs = search needs
+μ-loop text from sets₀ before count₀ place₀ sets count place = length sets - count
 
 width-requires : tie.Need-width-requires Inv-loop μ-loop
 width-requires c κs = search needs
@@ -31,21 +31,21 @@ width-requires c κs = search needs
 loop-holds : tie.Need-loop-holds Inv-loop μ-loop
 loop-holds c = (omega arith, refl, λ q to columns rows known few are. sets-none are)
 
-byte-requires : tie.Need-byte-requires Inv-loop μ-loop
-byte-requires c κs = search needs
+key-stands-requires : tie.Need-key-stands-requires Inv-loop μ-loop
+key-stands-requires c κs = search needs
 
 same-length : tie.Need-same-length Inv-loop μ-loop
 same-length c = search needs
 
 returns : tie.Need-returns Inv-loop μ-loop
 returns c =
-    let other = told-other (c .before .byte .ensures) (c .before .before .before .before .before .begins .ensures) (c .if1 .taken) in
+    let other = c .before .key-stands .ensures .1 (not-true _ (c .if1 .taken)) in
     λ q to columns rows known few are room. sets-end (c .before .before .before .loop .inv .2 q to columns rows known few are) other
 
 add-set-of : tie.Need-add-set-of Inv-loop μ-loop
 add-set-of c =
-    let here = told-same (c .before .byte .ensures) (c .before .before .before .before .before .begins .ensures) (c .if1 .left) in
-    omega (arith, byte-inside (c .before .before .before .before .before .before .before .before .args .text .now) here (λ z. omega arith), c .before .before .before .before .width .ensures, c .before .before .before .before .before .before .before .before .good)
+    let here = c .before .key-stands .ensures .0 (not-false _ (c .if1 .left)) in
+    omega (arith, key-inside Forbid here, c .before .before .before .before .width .ensures, c .before .before .before .before .before .before .before .good)
 
 set-of-requires : tie.Need-set-of-requires Inv-loop μ-loop
 set-of-requires c κs = search needs
@@ -61,8 +61,8 @@ add-count c = search needs
 
 next-line-requires : tie.Need-next-line-requires Inv-loop μ-loop
 next-line-requires c κs =
-    let here = told-same (c .before .before .byte .ensures) (c .before .before .before .before .before .before .begins .ensures) (c .before .if1 .left) in
-    byte-inside (c .before .before .before .before .before .before .before .before .before .args .text .now) here (λ z. omega arith)
+    let here = c .before .before .key-stands .ensures .0 (not-false _ (c .before .if1 .left)) in
+    omega (arith, key-inside Forbid here)
 
 loop-less : tie.Need-loop-less Inv-loop μ-loop
 loop-less c =
@@ -73,7 +73,7 @@ loop-again : tie.Need-loop-again Inv-loop μ-loop
 loop-again c =
     let l = c .before .before .before .before .before .loop in
     let room = c .before .before .before .before .loop-test .taken in
-    let here = told-same (c .before .before .before .byte .ensures) (c .before .before .before .before .before .before .before .begins .ensures) (c .before .before .if1 .left) in
+    let here = c .before .before .before .key-stands .ensures .0 (not-false _ (c .before .before .if1 .left)) in
     let bits = c .before .set-of .result in
     let long = length-set (l .sets) (l .count) bits in (
       omega (arith, room, long),
@@ -96,10 +96,9 @@ forbidden-sets-spec =
     (tie.spec
     Inv-loop
     μ-loop
-    begins-requires
     width-requires
     loop-holds
-    byte-requires
+    key-stands-requires
     same-length
     returns
     add-set-of
