@@ -46,13 +46,6 @@ pub name-counted : (most count : ℕ) (x : Spot) (names : List Spot) → count <
 unfolding nameAfter
 name-counted most count x names h = let e : most - count ≡ suc (most - (count + 1)) = omega arith in rw e
 
--- with no name after the first k there are at most k
-pub few-names : (k : ℕ) (names : List Spot) → nameAfter k names ≡ none → length names ≤ k
-unfolding nameAfter firstOf
-few-names k [] e = omega arith
-few-names zero (x ∷ names) e = absurd (Option·some-ne-none (x .place) e)
-few-names (suc k) (x ∷ names) e = omega (arith, few-names k names e)
-
 -- ---- lines
 
 -- after no line there is none

@@ -10,7 +10,7 @@ use Rattle.rules.specs.Names.{Spot, spot, Run, Name}
 use Rattle.rules.specs.Texts.{Line, line}
 use Rattle.rules.proofs.Signs.{inside, says-first}
 use Rattle.naming.specs.Words.{isSign, Skips, Between, nothing, sign, word, Words, Rows, no-row, one-row}
-use Rattle.naming.proofs.Walks.{between-forward, between-append, words-skips, words-stops, words-some, words-name, words-later, words-end}
+use Rattle.naming.proofs.Walks.{between-forward, between-append, words-some, Ahead, ahead-start, ahead-turn, ahead-end}
 use Rattle.faults.specs.Kinds.{keyOf, widthOf}
 use Rattle.faults.specs.declared.sections.Section.{Section}
 use Rattle.faults.specs.declared.sections.Section.the-variants.{Columns, Forbid, Need}
@@ -85,31 +85,29 @@ module _ {s key : List ℕ} {place q : ℕ} {P : List (Line (List Spot)) → Typ
 -- of the names to the line's end at place q those from this place on are left, and this is known of them
 pub record NamesLeft (s : List ℕ) (place q : ℕ) (P : List Spot → Type 0) : Type 0 where
   pub later : List Spot
-  pub words : Words s place q later
-  pub stops : isSign (byteAt s place) ≡ false
+  pub ahead : Ahead s place q later
   pub known : P later
 
 -- past the signs all are left
 pub names-start : {s : List ℕ} {from place q : ℕ} {names : List Spot} {P : List Spot → Type 0} → Words s from q names → Skips s from place
     → P names → NamesLeft s place q P
-names-start {names} w k p = record { later = names; words = words-skips w k; stops = words-stops w k; known = p }
+names-start {names} w k p = record { later = names; ahead = ahead-start w k; known = p }
 
 module _ {s : List ℕ} {place q : ℕ} {P : List Spot → Type 0} (left : NamesLeft s place q P) where
   -- where a byte in a name stands a name is left
   pub name-here : inName (byteAt s place) ≡ true → (r : ℕ) × (later : List Spot) × Name s place r × P (spot s place r ∷ later)
-  name-here e = let f = words-some (left .words) e in (f .0, f .1 .later, f .1 .name, rw (f .1 .same) at (left .known))
+  name-here e = let f = words-some (left .ahead .words) e in (f .0, f .1 .later, f .1 .name, rw (f .1 .same) at (left .known))
 
   -- behind it and the signs that follow the others are left
   pub name-next : {r next : ℕ} {Q : List Spot → Type 0} → inName (byteAt s place) ≡ true → Run s place r → Skips s r next
       → ((later : List Spot) → Name s place r → P (spot s place r ∷ later) → Q later) → NamesLeft s next q Q
   name-next e run k step =
-      let f = words-name (left .words) e run in
-      let w = words-later (left .words) f in
-      names-start w k (step (f .later) (f .name) (rw (f .same) at (left .known)))
+      let t = ahead-turn (left .ahead) e run k in
+      record { later = t .later; ahead = t .ahead; known = step (t .later) (t .name) (rw (t .same) at (left .known)) }
 
   -- where none stands none is left
   pub name-last : inName (byteAt s place) ≡ false → P []
-  name-last e = rw (words-end (left .words) (left .stops) e .1) at (left .known)
+  name-last e = rw (ahead-end (left .ahead) e .1) at (left .known)
 
 -- ---- the names before
 

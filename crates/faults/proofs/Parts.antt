@@ -8,20 +8,23 @@ use native.Mathlib.Omega.{arith}
 use lib.ListN.{length, length-map}
 use borrow.Author.Tests.{eq-eqb, ne-eqb, leb-true}
 use Rattle.rules.specs.Signs.{byteAt, digit, lineEnd, forbidKey, needKey}
+use Rattle.rules.specs.Sets.{mostColumns}
 use Rattle.rules.specs.Refusals.{tooMany}
 use Rattle.rules.specs.Names.{Spot}
 use Rattle.rules.specs.Phrases.{Formula, namesIn}
 use Rattle.rules.specs.Texts.{Line, line, Number, one-digit, two-digits, Sheet, OfForm}
 use Rattle.rules.specs.Sheets.{refusal, firstOver, nameAfter, lineAfter, firstNameFault, linesFault, columnFault, forbidFault, needFault, namesFault, linesIn, endFault}
 use Rattle.rules.proofs.Lists.{and-parts}
+use Rattle.rules.proofs.Searches.{else-none}
+use Rattle.rules.proofs.Sheets.{none-after}
 use Rattle.naming.specs.Words.{Words, Rows, columnsFrom}
 use Rattle.naming.proofs.Laid.{laid, laid-forbids, laid-needs}
 use Rattle.faults.specs.Kinds.{rowsOver, Walks, Sectioned}
 use Rattle.faults.specs.declared.sections.Walked.{Walked}
 use Rattle.faults.specs.declared.sections.Places.{Places}
-use Rattle.faults.proofs.Refusing.{map-first, no-first}
+use Rattle.faults.proofs.Refusing.{map-first}
 use Rattle.faults.proofs.Left.{byte-inside, line-inside}
-use Rattle.faults.proofs.Counted.{few-names, needs-rows}
+use Rattle.faults.proofs.Counted.{needs-rows}
 
 -- ---- the number at the end
 
@@ -110,8 +113,9 @@ over-parts sheet =
 
 -- with no more than there may be there are at most 16 columns
 pub few-columns : (sheet : Sheet) → Option·map (refusal tooMany) (firstOver sheet) ≡ none → length (sheet .columns) ≤ 16
-unfolding firstOver
-few-columns sheet e = few-names 16 (sheet .columns) (no-first _ _ (map-eq-none-iff (refusal tooMany) (firstOver sheet) .0 e))
+unfolding firstOver nameAfter
+few-columns sheet e =
+    none-after (λ x. x .place) mostColumns (sheet .columns) (else-none _ _ (map-eq-none-iff (refusal tooMany) (firstOver sheet) .0 e) .0)
 
 -- the lines of the names of need lines
 need-names : (lines : List (Line Formula))

@@ -54,10 +54,3 @@ module _ {A B : Type 0} where
   unfolding orElse
   map-first g none b = refl
   map-first g (some x) b = refl
-
-module _ {A : Type 0} where
-  -- with none in all there is no first
-  pub no-first : (a b : Option A) → orElse a b ≡ none → a ≡ none
-  unfolding orElse
-  no-first none b e = refl
-  no-first (some x) b e = e

@@ -11,6 +11,7 @@ use Rattle.rules.specs.Names.{Spot, sameName}
 use Rattle.rules.specs.Texts.{Line}
 use Rattle.rules.specs.Sheets.{columnOf, standsIn, firstNameFault, linesFault, columnFault, needFault, forbidFault}
 use Rattle.rules.proofs.Lists.{none-first}
+use Rattle.rules.proofs.ListTests.{first-below}
 use Rattle.naming.specs.Words.{Between}
 use Rattle.faults.specs.Refused.{numberIn, refusalIn}
 use Rattle.faults.specs.declared.numbers.Fault.{Fault}
@@ -28,18 +29,6 @@ pub once : (before : List Spot) (x : Spot) → standsIn before x ≡ false → n
 unfolding columnFault numberIn
 once before x e = rw e
 
--- one of which the test holds is found among the first places
-first-found : (p : Spot → Bool) (xs : List Spot) → anyOf p xs ≡ true → (d : ℕ) → Option·getD (firstWhere p xs) d < length xs
-unfolding firstWhere anyOf
-first-found p [] e d = absurd (false≢true e)
-first-found p (x ∷ xs) e d = go (p x) e (firstWhere p xs) (λ f. first-found p xs f d)
-  where
-    go : (b : Bool) → (b || anyOf p xs) ≡ true → (o : Option ℕ) → (anyOf p xs ≡ true → Option·getD o d < length xs)
-        → Option·getD (cond b (some 0) (Option·map suc o)) d < suc (length xs)
-    go true f o ih = omega arith
-    go false f none ih = omega (arith, ih f)
-    go false f (some k) ih = omega (arith, ih f)
-
 module _ (columns before : List Spot) (x : Spot) {r : ℕ} (found : r ≡ Option·getD (columnOf columns (x .name)) 16)
     (few : length columns ≤ 16) where
   -- a name that is no column is unknown
@@ -48,7 +37,9 @@ module _ (columns before : List Spot) (x : Spot) {r : ℕ} (found : r ≡ Option
   not-known e = go (standsIn columns x) refl
     where
       go : (b : Bool) → standsIn columns x ≡ b → _≡_ {A = Option ℕ} (some 5) (cond b none (some 5))
-      go true f = absurd (omega (arith, first-found (λ c. sameName (c .name) (x .name)) columns f 16, found))
+      go true f =
+          let first = first-below (λ c. sameName (c .name) (x .name)) columns f in
+          absurd (omega (arith, first .2, rw (first .1) at found))
       go false f = refl
 
   -- else it is known

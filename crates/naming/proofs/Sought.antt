@@ -12,6 +12,8 @@ use Rattle.rules.specs.Lists.{anyOf, firstWhere}
 use Rattle.rules.specs.Signs.{byteAt, piece, inName}
 use Rattle.rules.specs.Names.{Spot, Run, sameName}
 use Rattle.rules.specs.Sheets.{columnOf, columnIn, standsIn}
+use Rattle.rules.proofs.Lists.{none-first}
+use Rattle.rules.proofs.ListTests.{first-below}
 use Rattle.naming.specs.Words.{isSign, Skips, Between, Words}
 use Rattle.naming.proofs.Walks.{
   name-no-sign,
@@ -86,6 +88,11 @@ module _ {s : List ℕ} {place at : ℕ} {x : Spot} {names : List Spot} (among :
 
 -- ---- which of them it is
 
+-- a list with nothing in it
+pub none-left : {A : Type 0} (xs : List A) → length xs ≡ 0 → xs ≡ []
+none-left [] e = refl
+none-left (x ∷ xs) e = absurd (omega arith)
+
 -- of the names from a place to the line's end, before which stand so many: the place of this one among all of them is its place among those, and so many
 pub record Sought (s : List ℕ) (place q column : ℕ) (name : List ℕ) (columns : List Spot) : Type 0 where
   later : List Spot
@@ -114,11 +121,7 @@ module _ {s : List ℕ} {place q column : ℕ} {name : List ℕ} {columns : List
 
   -- when 16 columns are past it is no column
   pub sought-all : 16 ≤ column → length columns ≤ 16 → Option·getD (columnOf columns name) 16 ≡ 16
-  sought-all h few = sought-nothing (go (sought .later) (omega (arith, sought .many)))
-    where
-      go : (xs : List Spot) → length xs ≤ 0 → xs ≡ []
-      go [] l = refl
-      go (x ∷ xs) l = absurd (omega arith)
+  sought-all h few = sought-nothing (none-left (sought .later) (omega (arith, sought .many)))
 
   -- where the same name stands it is that column
   pub sought-here : inName (byteAt s place) ≡ true → ((r : ℕ) → Run s place r → sameName (piece s place r) name ≡ true)
@@ -147,19 +150,6 @@ module _ {s : List ℕ} {place q column : ℕ} {name : List ℕ} {columns : List
 
 -- ---- the column, or 0
 
--- the place found is one of the list's, unless there is none
-first-within : (p : Spot → Bool) (xs : List Spot) (d : ℕ) → (firstWhere p xs ≡ none) ⊎ (Option·getD (firstWhere p xs) d < length xs)
-unfolding firstWhere
-first-within p [] d = inl refl
-first-within p (x ∷ xs) d = go (p x) (firstWhere p xs) (first-within p xs d)
-  where
-    go : (b : Bool) (o : Option ℕ) → (o ≡ none) ⊎ (Option·getD o d < length xs)
-        → (cond b (some 0) (Option·map suc o) ≡ none) ⊎ (Option·getD (cond b (some 0) (Option·map suc o)) d < suc (length xs))
-    go true o h = inr (omega arith)
-    go false none h = inl refl
-    go false (some k) (inl e) = let z : _≡_ {A = Bool} true false = cc in absurd (true≢false z)
-    go false (some k) (inr h) = inr (omega arith)
-
 module _ (columns : List Spot) (x : Spot) {r : ℕ} (found : r ≡ Option·getD (columnOf columns (x .name)) 16) where
   -- a column that was found is the name's column
   pub known-column : r < 16 → r ≡ columnIn columns x
@@ -172,9 +162,12 @@ module _ (columns : List Spot) (x : Spot) {r : ℕ} (found : r ≡ Option·getD 
 
   -- where none was found the name's column is 0
   pub unknown-column : length columns ≤ 16 → 16 ≤ r → 0 ≡ columnIn columns x
-  unfolding columnIn columnOf
-  unknown-column few h = go (first-within (λ c. sameName (c .name) (x .name)) columns 16)
+  unfolding columnIn columnOf standsIn
+  unknown-column few h = go (standsIn columns x) refl
     where
-      go : (columnOf columns (x .name) ≡ none) ⊎ (Option·getD (columnOf columns (x .name)) 16 < length columns) → 0 ≡ columnIn columns x
-      go (inl e) = rw e
-      go (inr l) = absurd (omega (arith, found))
+      same : Spot → Bool
+      same c = sameName (c .name) (x .name)
+
+      go : (b : Bool) → anyOf same columns ≡ b → 0 ≡ columnIn columns x
+      go true e = let first = first-below same columns e in absurd (omega (arith, first .2, rw (first .1) at found))
+      go false e = rw (none-first same columns e)

@@ -58,7 +58,8 @@ faultless sheet e =
 
 -- ---- counts
 
-none-after : {A : Type 0} (place : A → ℕ) (k : ℕ) (xs : List A) → Option·map place (firstOf (drop k xs)) ≡ none → length xs ≤ k
+-- with nothing after the first k there are at most k
+pub none-after : {A : Type 0} (place : A → ℕ) (k : ℕ) (xs : List A) → Option·map place (firstOf (drop k xs)) ≡ none → length xs ≤ k
 unfolding firstOf
 none-after place zero [] e = omega arith
 none-after place zero (x ∷ xs) e = absurd (Option·none-ne-some (place x) (sym e))

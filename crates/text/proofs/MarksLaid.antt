@@ -2,10 +2,8 @@
 use mathlib.Core.Path.{_≡_, refl, sym, ap, _∙_}
 use mathlib.Core.List.{List, [], _∷_, _++_, append-assoc, append-nil}
 use Prim.Native.Nat.{ℕ, _+_, _≤_, _<_}
-use native.Mathlib.Numerals.{add-one}
 use native.Mathlib.Omega.{arith}
 use lib.ListN.{length, set, take, length-append, length-set}
-use lib.Seq.{take-suc-set}
 use Rattle.rules.specs.Marks.{endMark}
 use Rattle.rules.specs.Signs.{byteAt, Says, needKey, lineEnd}
 use Rattle.rules.specs.Names.{Spot}
@@ -18,6 +16,7 @@ use Rattle.rules.proofs.Texts.{lines-unique}
 use Rattle.naming.specs.Words.{Words, columnsFrom}
 use Rattle.phrases.specs.declared.Read.{Read}
 use Rattle.phrases.specs.Readers.{marksLong, Readable, Wrote, Marked}
+use Rattle.phrases.proofs.Turns.{take-set}
 use Rattle.text.specs.Built.{NeedLines, Markable, MarksWritten}
 
 marks-append : (columns : List Spot) (xs ys : List (Line Formula)) → marksOf columns (xs ++ ys) ≡ marksOf columns xs ++ marksOf columns ys
@@ -147,7 +146,7 @@ module _ {s : List ℕ} {from place count : ℕ} {marks : List ℕ} (l : Laying 
                 );
             fits = omega (arith, l .fits, long, length-set new (r .marked) endMark);
             laid = λ q columns w few.
-                rw add-one (take-suc-set new (r .marked) endMark (laying-room .0))
+                take-set new (r .marked) endMark (laying-room .0)
                 ∙ ap (λ (m : List ℕ). m ++ (endMark ∷ [])) (wrote .marks q columns w few ∙ ap (λ (m : List ℕ). m ++ marksIn columns (here .says)) (l .laid q columns w few))
                 ∙ append-assoc (marksOf columns (l .done)) (marksIn columns (here .says)) (endMark ∷ [])
                 ∙ sym (behind columns);

@@ -2,19 +2,18 @@
 use mathlib.Core.Path.{_≡_, refl, sym, ap, _∙_}
 use mathlib.Core.List.{List, [], _∷_, _++_, map, map-append, append-assoc, append-nil}
 use Prim.Native.Nat.{ℕ, _+_, _≤_, _<_}
-use native.Mathlib.Numerals.{add-one}
 use native.Mathlib.Omega.{arith}
 use lib.ListN.{length, set, take, length-append}
-use lib.Seq.{take-suc-set}
 use Rattle.rules.specs.Sets.{empty}
 use Rattle.rules.specs.Signs.{Says, forbidKey}
 use Rattle.rules.specs.Names.{Spot}
 use Rattle.rules.specs.Texts.{Line, line}
 use Rattle.rules.specs.Sheets.{setWith}
 use Rattle.naming.specs.Words.{Words, Rows}
+use Rattle.naming.proofs.Sought.{none-left}
 use Rattle.faults.proofs.Left.{RowsLeft, row-next, row-end}
+use Rattle.phrases.proofs.Turns.{take-set}
 use Rattle.text.specs.Built.{SetsWritten}
-use Rattle.text.proofs.Tabling.{none-left}
 
 -- so many lines are read, and their sets stand in the first places
 pub record SetsLaid (columns : List Spot) (rows : List (Line (List Spot))) (count : ℕ) (sets : List ℕ) (left : List (Line (List Spot))) : Type 0 where
@@ -48,7 +47,7 @@ module _ {s : List ℕ} {columns : List Spot} {rows : List (Line (List Spot))} {
               whole = k .whole ∙ sym (append-assoc (k .done) (x ∷ []) later);
               many = omega (arith, k .many, length-append (k .done) (x ∷ []));
               laid =
-                  rw add-one (take-suc-set sets count bits room)
+                  take-set sets count bits room
                   ∙ ap (λ (b : ℕ). take count sets ++ (b ∷ [])) (is r names w)
                   ∙ ap (λ (t : List ℕ). t ++ (setWith columns empty names ∷ [])) (k .laid)
                   ∙ sym (map-append (λ (y : Line (List Spot)). setWith columns empty (y .value)) (k .done) (x ∷ []));

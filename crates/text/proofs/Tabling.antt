@@ -9,6 +9,7 @@ use Rattle.rules.specs.Lists.{written}
 use Rattle.rules.specs.Signs.{byteAt, piece, inName}
 use Rattle.rules.specs.Names.{Spot, spot, Run}
 use Rattle.naming.specs.Words.{Words, Skips, columnsFrom}
+use Rattle.naming.proofs.Sought.{none-left}
 use Rattle.naming.proofs.Walks.{Ahead, ahead-start, ahead-turn, ahead-end}
 use Rattle.text.specs.Tables.{nameRows, nameTable, Tabled}
 use Rattle.text.proofs.NameTables.{table-more}
@@ -24,11 +25,6 @@ pub record Filled (s : List ℕ) (q : ℕ) (columns : List Spot) (place count : 
 
 piece-short : (s : List ℕ) (p q : ℕ) → q ≤ p + 12 → length (piece s p q) ≤ 12
 piece-short s p q h = omega (arith, length-take (q - p) (drop p s))
-
--- a list with nothing in it
-pub none-left : {A : Type 0} (xs : List A) → length xs ≡ 0 → xs ≡ []
-none-left [] e = refl
-none-left (x ∷ xs) e = absurd (omega arith)
 
 module _ {s : List ℕ} {q : ℕ} {columns : List Spot} where
   -- before the first column
