@@ -13,7 +13,7 @@ use Rattle.rules.specs.Texts.{Line, line}
 use Rattle.rules.specs.Sheets.{refusal, nameAfter, lineAfter, needsOver}
 use Rattle.faults.specs.Refused.{refusalIn}
 use Rattle.faults.specs.Kinds.{rowsOver}
-use Rattle.faults.specs.declared.numbers.Fault.{Fault}
+use Rattle.faults.specs.declared.fault.Fault.{Fault}
 use Rattle.faults.proofs.Refusing.{refused, nothing-refused, map-first}
 
 -- ---- the refusal

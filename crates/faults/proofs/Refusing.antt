@@ -5,7 +5,7 @@ use Prim.Native.Nat.{ℕ}
 use borrow.Author.Tests.{ne-eqb}
 use Rattle.rules.specs.Sheets.{Refusal, refusal}
 use Rattle.faults.specs.Refused.{numberIn, refusalIn}
-use Rattle.faults.specs.declared.numbers.Fault.{Fault}
+use Rattle.faults.specs.declared.fault.Fault.{Fault}
 
 -- the number 0 stands for no fault
 pub no-number : {n : ℕ} {o : Option ℕ} → numberIn n ≡ o → n ≡ 0 → o ≡ none

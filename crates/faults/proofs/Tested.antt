@@ -14,7 +14,7 @@ use Rattle.rules.proofs.Lists.{none-first}
 use Rattle.rules.proofs.ListTests.{first-below}
 use Rattle.naming.specs.Words.{Between}
 use Rattle.faults.specs.Refused.{numberIn, refusalIn}
-use Rattle.faults.specs.declared.numbers.Fault.{Fault}
+use Rattle.faults.specs.declared.fault.Fault.{Fault}
 use Rattle.faults.proofs.Refusing.{no-number, a-number, a-refusal, refused, passed}
 
 -- ---- one name

@@ -4,7 +4,7 @@ use mathlib.Core.Option.{Option, none, some}
 use Prim.Native.Nat.{ℕ}
 use lib.Dec.{eqb}
 use Rattle.rules.specs.Sheets.{Refusal, refusal}
-use Rattle.faults.specs.declared.numbers.Fault.{Fault}
+use Rattle.faults.specs.declared.fault.Fault.{Fault}
 
 unfoldable pub numberIn : ℕ → Option ℕ
 numberIn number = cond (eqb number 0) none (some number)

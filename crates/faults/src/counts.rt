@@ -1,12 +1,16 @@
 // Refusal 3: more columns, lines or names than there may be.
-use crate::numbers::Fault;
-use crate::numbers::TOO_MANY;
-use crate::numbers::no_fault;
+use crate::fault::Fault;
+use crate::fault::no_fault;
 use crate::sections::Places;
 use crate::sections::Section;
 use crate::sections::key_stands;
 use crate::sections::next_line;
 use crate::sections::width;
+use columns::ColumnSet;
+use job::MOST_FORBIDDEN;
+use job::fitness::MOST_COLUMN_MARKS;
+use job::refusals::TOO_MANY;
+use job::rows::MOST_NEEDS;
 use naming::known::COLUMNS_FROM;
 use naming::signs::byte;
 use naming::signs::in_name;
@@ -24,15 +28,6 @@ ghost use Rattle.rules.specs.Sheets.{refusal, nameAfter, lineAfter, firstOver};
 ghost use Rattle.naming.specs.Words.{Words, Rows};
 ghost use Rattle.faults.specs.Refused.{refusalIn};
 ghost use Rattle.faults.specs.Kinds.{rowsOver, Sectioned};
-
-// "Columns 1 to 16. Forbidden sets 0 to 32. Needs 0 to 8. Column marks in a need 1 to 32."
-const MOST_COLUMNS: usize = 16;
-
-const MOST_FORBIDDEN: usize = 32;
-
-const MOST_NEEDS: usize = 8;
-
-const MOST_NAMES: usize = 32;
 
 // The name after the first so many of a line.
 fn name_over(text: &[u8], from: usize, most: usize) -> Fault
@@ -89,7 +84,7 @@ fn need_over(text: &[u8], from: usize) -> Fault
                 place,
             };
         }
-        let name = name_over(text, place + before, MOST_NAMES);
+        let name = name_over(text, place + before, MOST_COLUMN_MARKS);
         if name.number != 0 {
             return name;
         }
@@ -103,7 +98,7 @@ pub fn over(text: &[u8], places: Places) -> Fault
     ensures { λ r. ⌜ ((sheet : Sheet) (form : OfForm (now (text .entry)) sheet) → Sectioned (now (text .entry)) sheet form places
         → refusalIn r ≡ Option·map (refusal tooMany) (firstOver sheet)) ⌝ }
 {
-    let column = name_over(text, COLUMNS_FROM, MOST_COLUMNS);
+    let column = name_over(text, COLUMNS_FROM, ColumnSet::MOST_COLUMNS as usize);
     if column.number != 0 {
         return column;
     }

@@ -1,8 +1,8 @@
 // Refusal 6: the end line has another number than there are forbid and need lines.
-use crate::numbers::END_NUMBER_OTHER;
-use crate::numbers::Fault;
-use crate::numbers::no_fault;
+use crate::fault::Fault;
+use crate::fault::no_fault;
 use crate::sections::Places;
+use job::refusals::END_NUMBER_OTHER;
 use naming::signs::byte;
 ghost use mathlib.Core.Path.{_≡_};
 ghost use Prim.Native.Nat.{ℕ, _-_};

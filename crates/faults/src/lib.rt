@@ -1,11 +1,11 @@
 // The first fault of a text that is of the form: too many of something, a name twice or unknown, or another number at the end.
 pub mod sections; // sections.rt: where the lines of each kind begin
-pub mod numbers; // numbers.rt: the numbers of the refusals, and a refusal's place
+pub mod fault; // fault.rt: a refusal's number and place
 mod counts; // counts.rt: more than there may be
 mod names; // names.rt: names at fault
 mod ended; // ended.rt: the number at the end
 
-use numbers::Fault;
+use fault::Fault;
 ghost use mathlib.Core.Path.{_≡_};
 ghost use Rattle.rules.specs.Texts.{Sheet, OfForm};
 ghost use Rattle.rules.specs.Sheets.{sheetFault};

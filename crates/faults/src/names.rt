@@ -1,15 +1,15 @@
 // Refusals 4 and 5: a name twice where it may stand once, and a name that is no column.
-use crate::numbers::Fault;
-use crate::numbers::NAME_TWICE;
-use crate::numbers::NAME_UNKNOWN;
-use crate::numbers::no_fault;
+use crate::fault::Fault;
+use crate::fault::no_fault;
 use crate::sections::Places;
 use crate::sections::Section;
 use crate::sections::key_stands;
 use crate::sections::next_line;
 use crate::sections::width;
+use columns::ColumnSet;
+use job::refusals::NAME_TWICE;
+use job::refusals::NAME_UNKNOWN;
 use naming::known::COLUMNS_FROM;
-use naming::known::MOST_COLUMNS;
 use naming::known::column_of;
 use naming::signs::byte;
 use naming::signs::in_name;
@@ -46,7 +46,7 @@ fn unknown(text: &[u8], at: usize) -> u16
     ensures { λ r. ⌜ ((p q : ℕ) (columns before : List Spot) → Words (now (text .entry)) columnsFrom q columns → length columns ≤ 16
         → Run (now (text .entry)) at p → numberIn r ≡ needFault columns before (spot (now (text .entry)) at p)) ⌝ }
 {
-    if column_of(text, at) == MOST_COLUMNS {
+    if column_of(text, at) == ColumnSet::MOST_COLUMNS {
         NAME_UNKNOWN
     } else {
         0

@@ -4,6 +4,7 @@ use crate::signs::in_name;
 use crate::words::name_end;
 use crate::words::next_name;
 use crate::words::same;
+use columns::ColumnSet;
 ghost use mathlib.Core.Path.{_≡_};
 ghost use mathlib.Core.List.{List};
 ghost use mathlib.Core.Option.{Option·getD};
@@ -17,9 +18,6 @@ ghost use Rattle.naming.specs.Words.{Words, columnsFrom};
 // The names of the columns stand behind `columns=`.
 pub const COLUMNS_FROM: usize = 8;
 
-// "Columns 1 to 16." So 16 is no column.
-pub const MOST_COLUMNS: u16 = 16;
-
 // The column that the name at a place is, or 16 if it is none.
 pub fn column_of(text: &[u8], at: usize) -> u16
     ensures few { λ r. ⌜ r ≤ 16 ⌝ }
@@ -28,9 +26,9 @@ pub fn column_of(text: &[u8], at: usize) -> u16
 {
     let mut column: u16 = 0;
     let mut place = next_name(text, COLUMNS_FROM);
-    while column < MOST_COLUMNS {
+    while column < ColumnSet::MOST_COLUMNS {
         if !in_name(byte(text, place)) {
-            return MOST_COLUMNS;
+            return ColumnSet::MOST_COLUMNS;
         }
         if same(text, place, at) {
             return column;
@@ -38,7 +36,7 @@ pub fn column_of(text: &[u8], at: usize) -> u16
         column += 1;
         place = next_name(text, name_end(text, place));
     }
-    MOST_COLUMNS
+    ColumnSet::MOST_COLUMNS
 }
 
 // The same, but 0 if it is none.
@@ -48,5 +46,9 @@ pub fn column_in(text: &[u8], at: usize) -> u16
         → Run (now (text .entry)) at p → r ≡ columnIn columns (spot (now (text .entry)) at p)) ⌝ }
 {
     let column = column_of(text, at);
-    if column < MOST_COLUMNS { column } else { 0 }
+    if column < ColumnSet::MOST_COLUMNS {
+        column
+    } else {
+        0
+    }
 }

@@ -20,7 +20,7 @@ use Rattle.job.specs.declared.Loaded.{Loaded}
 use Rattle.job.specs.Records.{jobWith, loaded}
 use Rattle.naming.specs.Words.{Words, Rows, columnsFrom}
 use Rattle.naming.proofs.Laid.{laid}
-use Rattle.faults.specs.declared.numbers.Fault.{Fault}
+use Rattle.faults.specs.declared.fault.Fault.{Fault}
 use Rattle.faults.specs.declared.sections.Places.{Places}
 use Rattle.faults.specs.Refused.{refusalIn}
 use Rattle.faults.specs.Kinds.{Sectioned}

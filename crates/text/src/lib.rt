@@ -1,13 +1,15 @@
 // A job text: any bytes in, the refusal with its place or the job out.
 use faults::first_fault;
-use faults::numbers::TEXT_NOT_OF_FORM;
-use faults::numbers::TEXT_TOO_LONG;
 use faults::sections::sections;
 use form::Formed;
 use form::form;
 use job::Job;
+use job::MOST_FORBIDDEN;
+use job::MOST_MARKS;
 use job::load;
 use job::no_job;
+use job::refusals::TEXT_NOT_OF_FORM;
+use job::refusals::TEXT_TOO_LONG;
 use table::NAMES;
 
 mod table; // table.rt: the names of the columns
@@ -23,11 +25,6 @@ ghost use Rattle.text.specs.Promises.{Right, Takes, readOf};
 
 // "Job text at most 8,192 bytes."
 pub const MOST_BYTES: usize = 8192;
-
-// "Forbidden sets 0 to 32." Eight needs of 63 marks and an end mark each are 512.
-const MOST_FORBIDDEN: usize = 32;
-
-const MOST_MARKS: usize = 512;
 
 // The refusal's number and place, and a job with no columns, sets or marks; or 0, 0, the job, and the names of its columns, 12 bytes for each. Every
 // place without a number or a byte is 0.

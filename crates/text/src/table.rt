@@ -1,4 +1,5 @@
 // The names of the columns, in a table of 12 bytes for each.
+use columns::ColumnSet;
 use naming::known::COLUMNS_FROM;
 use naming::signs::byte;
 use naming::signs::in_name;
@@ -14,9 +15,7 @@ ghost use Rattle.rules.specs.Names.{Spot, Run};
 ghost use Rattle.naming.specs.Words.{Words, columnsFrom};
 ghost use Rattle.text.specs.Tables.{Tabled};
 
-// "Columns 1 to 16." "Names 1 to 12 bytes."
-const MOST_COLUMNS: usize = 16;
-
+// "Names 1 to 12 bytes." Those of 16 columns are 192.
 const NAME_BYTES: usize = 12;
 
 pub const NAMES: usize = 192;
@@ -50,7 +49,7 @@ pub fn name_table(text: &[u8]) -> Table
     let mut names = [0u8; NAMES];
     let mut columns: usize = 0;
     let mut place = next_name(text, COLUMNS_FROM);
-    while columns < MOST_COLUMNS {
+    while columns < ColumnSet::MOST_COLUMNS as usize {
         if !in_name(byte(text, place)) {
             return Table { columns, names };
         }

@@ -7,6 +7,9 @@ use borrow.Author.Needs.{needs}
 use Rattle.faults.proofs.counts.over.Statement.{statement}
 use Rattle.faults.proofs.counts.over.Tie as tie
 
+cast-name-over : tie.Need-cast-name-over
+cast-name-over c = search needs
+
 name-over-requires : tie.Need-name-over-requires
 name-over-requires c κs = search needs
 
@@ -49,6 +52,7 @@ pub over-spec : {M : Type 1} → statement M
 over-spec =
     tie.close
     (tie.spec
+    cast-name-over
     name-over-requires
     returns
     forbid-over-requires

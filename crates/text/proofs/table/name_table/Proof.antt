@@ -27,6 +27,9 @@ next-name-requires c κs = search needs
 loop-holds : tie.Need-loop-holds Inv-loop μ-loop
 loop-holds c = (omega arith, refl, λ q known w. filled-none w (c .next-name .ensures))
 
+cast-loop : tie.Need-cast-loop Inv-loop μ-loop
+cast-loop c = search needs
+
 byte-requires : tie.Need-byte-requires Inv-loop μ-loop
 byte-requires c κs = search needs
 
@@ -87,6 +90,7 @@ name-table-spec =
     μ-loop
     next-name-requires
     loop-holds
+    cast-loop
     byte-requires
     in-name-requires
     returns
