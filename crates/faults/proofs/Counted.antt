@@ -1,11 +1,11 @@
 -- More than there may be: what is left of a count. Assumes nothing.
 use mathlib.Core.Path.{_≡_, refl, _∙_}
 use mathlib.Core.List.{List, [], _∷_, map}
-use mathlib.Core.Option.{Option, none, some, Option·map, orElse, Option·some-ne-none, map-eq-none-iff}
-use Prim.Native.Nat.{ℕ, zero, suc, _+_, _-_, _<_, _≤_}
+use mathlib.Core.Option.{Option, none, some, Option·map, orElse, map-eq-none-iff}
+use Prim.Native.Nat.{ℕ, zero, suc, _+_, _-_, _<_}
 use native.Mathlib.Omega.{arith}
-use lib.ListN.{length}
 use Rattle.rules.specs.Lists.{firstOf}
+use Rattle.rules.specs.Numbers.{mostColumnMarks}
 use Rattle.rules.specs.Refusals.{tooMany}
 use Rattle.rules.specs.Names.{Spot}
 use Rattle.rules.specs.Phrases.{Formula, namesIn}
@@ -19,7 +19,7 @@ use Rattle.faults.proofs.Refusing.{refused, nothing-refused, map-first}
 -- ---- the refusal
 
 -- the place of what is too many, refused
-pub too-many : (p : ℕ) {o : Option ℕ} → o ≡ some p → refusalIn (record { number = 3; place = p }) ≡ Option·map (refusal tooMany) o
+pub too-many : (p : ℕ) {o : Option ℕ} → o ≡ some p → refusalIn (record { number = tooMany; place = p }) ≡ Option·map (refusal tooMany) o
 unfolding refusalIn
 too-many p e = rw e
 
@@ -81,23 +81,23 @@ row-over most count l lines e = let z : most - count ≡ 0 = omega arith in rw z
 
 -- else it counts as one of them, and its names may be too many
 row-counted : (most count : ℕ) (l : Line (List Spot)) (lines : List (Line (List Spot))) → count < most
-    → rowsOver (most - count) (l ∷ lines) ≡ orElse (nameAfter 32 (l .value)) (rowsOver (most - (count + 1)) lines)
+    → rowsOver (most - count) (l ∷ lines) ≡ orElse (nameAfter mostColumnMarks (l .value)) (rowsOver (most - (count + 1)) lines)
 unfolding rowsOver
 row-counted most count l lines h = let e : most - count ≡ suc (most - (count + 1)) = omega arith in rw e
 
 module _ (f : Fault) (most count : ℕ) (l : Line (List Spot)) (lines : List (Line (List Spot))) (h : count < most)
-    (e : refusalIn f ≡ Option·map (refusal tooMany) (nameAfter 32 (l .value))) where
+    (e : refusalIn f ≡ Option·map (refusal tooMany) (nameAfter mostColumnMarks (l .value))) where
   -- a name of the first line is too many
   pub row-refused : (f .number ≡ 0 → ⊥) → refusalIn f ≡ Option·map (refusal tooMany) (rowsOver (most - count) (l ∷ lines))
   row-refused n =
       let later = rowsOver (most - (count + 1)) lines in
-      rw (row-counted most count l lines h, map-first (refusal tooMany) (nameAfter 32 (l .value)) later) (refused f e _ n)
+      rw (row-counted most count l lines h, map-first (refusal tooMany) (nameAfter mostColumnMarks (l .value)) later) (refused f e _ n)
 
   -- or none is
   pub row-passed : f .number ≡ 0 → rowsOver (most - count) (l ∷ lines) ≡ rowsOver (most - (count + 1)) lines
   unfolding orElse
   row-passed z =
-      let none-over : nameAfter 32 (l .value) ≡ none = map-eq-none-iff (refusal tooMany) (nameAfter 32 (l .value)) .0 (nothing-refused f e z) in
+      let none-over : nameAfter mostColumnMarks (l .value) ≡ none = map-eq-none-iff (refusal tooMany) (nameAfter mostColumnMarks (l .value)) .0 (nothing-refused f e z) in
       row-counted most count l lines h ∙ rw none-over
 
 -- need lines and the lines of their names

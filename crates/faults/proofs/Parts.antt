@@ -7,9 +7,10 @@ use Prim.Native.Nat.{ℕ, _+_, _-_, _*_, _<_, _≤_}
 use native.Mathlib.Omega.{arith}
 use lib.ListN.{length, length-map}
 use borrow.Author.Tests.{eq-eqb, ne-eqb, leb-true}
-use Rattle.rules.specs.Signs.{byteAt, digit, lineEnd, forbidKey, needKey}
+use Rattle.rules.specs.Numbers.{mostForbidden, mostNeeds}
+use Rattle.rules.specs.Signs.{byteAt, digit, lineEnd, forbidKey, needKey, endKey}
 use Rattle.rules.specs.Sets.{mostColumns}
-use Rattle.rules.specs.Refusals.{tooMany}
+use Rattle.rules.specs.Refusals.{tooMany, endNumberOther}
 use Rattle.rules.specs.Names.{Spot}
 use Rattle.rules.specs.Phrases.{Formula, namesIn}
 use Rattle.rules.specs.Texts.{Line, line, Number, one-digit, two-digits, Sheet, OfForm}
@@ -81,7 +82,7 @@ module _ {s : List ℕ} {sheet : Sheet} (form : OfForm s sheet) {places : Places
   pub end-inside : places .end < length s
   end-inside = rw (at .end) (line-inside (form .endSaid) (λ z. absurd (omega arith)))
 
-  module _ {n : ℕ} (read : (q k : ℕ) → Number s (places .end + 4) q k → byteAt s q ≡ lineEnd → n ≡ k) where
+  module _ {n : ℕ} (read : (q k : ℕ) → Number s (places .end + length endKey) q k → byteAt s q ≡ lineEnd → n ≡ k) where
     -- the number read is the sheet's
     end-number : n ≡ sheet .ended .value
     end-number = read (form .numberTo) (sheet .ended .value) (rw (at .end) (form .number)) (form .numberEnd)
@@ -92,27 +93,27 @@ module _ {s : List ℕ} {sheet : Sheet} (form : OfForm s sheet) {places : Places
     end-same e = sym (rw (eq-eqb (sheet .ended .value) (linesIn sheet) (sym end-number ∙ e ∙ at .lines)))
 
     -- or another
-    pub end-other : (n ≡ places .lines → ⊥) → some (refusal 6 (places .end + 4)) ≡ endFault sheet
+    pub end-other : (n ≡ places .lines → ⊥) → some (refusal endNumberOther (places .end + length endKey)) ≡ endFault sheet
     unfolding endFault
     end-other f =
         let g : sheet .ended .value ≡ linesIn sheet → ⊥ = λ e. f (end-number ∙ e ∙ sym (at .lines)) in
-        let e : places .end + 4 ≡ sheet .ended .place = ap (λ (p : ℕ). p + 4) (at .end) ∙ sym (form .ended) in
+        let e : places .end + length endKey ≡ sheet .ended .place = ap (λ (p : ℕ). p + length endKey) (at .end) ∙ sym (form .ended) in
         rw (ne-eqb (sheet .ended .value) (linesIn sheet) g, e)
 
 -- ---- what can be at fault, part by part
 
 -- more than there may be: the columns, the forbid lines, the need lines
 pub over-parts : (sheet : Sheet) → Option·map (refusal tooMany) (firstOver sheet)
-    ≡ orElse (Option·map (refusal tooMany) (nameAfter 16 (sheet .columns)))
-    (orElse (Option·map (refusal tooMany) (lineAfter 32 (sheet .forbids)))
-    (Option·map (refusal tooMany) (rowsOver 8 (map (λ l. line (l .place) (namesIn (l .value))) (sheet .needs)))))
+    ≡ orElse (Option·map (refusal tooMany) (nameAfter mostColumns (sheet .columns)))
+    (orElse (Option·map (refusal tooMany) (lineAfter mostForbidden (sheet .forbids)))
+    (Option·map (refusal tooMany) (rowsOver mostNeeds (map (λ l. line (l .place) (namesIn (l .value))) (sheet .needs)))))
 unfolding firstOver
 over-parts sheet =
-    rw (needs-rows 8 (sheet .needs))
-    (map-first (refusal tooMany) _ _ ∙ rw (map-first (refusal tooMany) (lineAfter 32 (sheet .forbids)) _))
+    rw (needs-rows mostNeeds (sheet .needs))
+    (map-first (refusal tooMany) _ _ ∙ rw (map-first (refusal tooMany) (lineAfter mostForbidden (sheet .forbids)) _))
 
 -- with no more than there may be there are at most 16 columns
-pub few-columns : (sheet : Sheet) → Option·map (refusal tooMany) (firstOver sheet) ≡ none → length (sheet .columns) ≤ 16
+pub few-columns : (sheet : Sheet) → Option·map (refusal tooMany) (firstOver sheet) ≡ none → length (sheet .columns) ≤ mostColumns
 unfolding firstOver nameAfter
 few-columns sheet e =
     none-after (λ x. x .place) mostColumns (sheet .columns) (else-none _ _ (map-eq-none-iff (refusal tooMany) (firstOver sheet) .0 e) .0)

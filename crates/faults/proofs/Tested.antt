@@ -1,12 +1,13 @@
 -- Names at fault: one name, the names of a line, the lines of a kind. Assumes nothing.
 use mathlib.Core.Path.{_≡_, refl, sym, _∙_}
-use mathlib.Core.Bool.{Bool, true, false, cond, _||_, false≢true}
+use mathlib.Core.Bool.{Bool, true, false, cond}
 use mathlib.Core.List.{List, [], _∷_, _++_, map}
-use mathlib.Core.Option.{Option, none, some, Option·map, Option·getD, orElse}
-use Prim.Native.Nat.{ℕ, suc, _<_, _≤_}
+use mathlib.Core.Option.{Option, none, some, Option·getD, orElse}
+use Prim.Native.Nat.{ℕ, _≤_}
 use native.Mathlib.Omega.{arith}
 use lib.ListN.{length}
-use Rattle.rules.specs.Lists.{anyOf, firstWhere}
+use Rattle.rules.specs.Sets.{mostColumns}
+use Rattle.rules.specs.Refusals.{nameTwice, nameUnknown}
 use Rattle.rules.specs.Names.{Spot, sameName}
 use Rattle.rules.specs.Texts.{Line}
 use Rattle.rules.specs.Sheets.{columnOf, standsIn, firstNameFault, linesFault, columnFault, needFault, forbidFault}
@@ -20,7 +21,7 @@ use Rattle.faults.proofs.Refusing.{no-number, a-number, a-refusal, refu
 -- ---- one name
 
 -- a name that stands before is there twice
-pub twice : (before : List Spot) (x : Spot) → standsIn before x ≡ true → numberIn 4 ≡ columnFault before x
+pub twice : (before : List Spot) (x : Spot) → standsIn before x ≡ true → numberIn nameTwice ≡ columnFault before x
 unfolding columnFault numberIn
 twice before x e = rw e
 
@@ -29,28 +30,28 @@ pub once : (before : List Spot) (x : Spot) → standsIn before x ≡ false → n
 unfolding columnFault numberIn
 once before x e = rw e
 
-module _ (columns before : List Spot) (x : Spot) {r : ℕ} (found : r ≡ Option·getD (columnOf columns (x .name)) 16)
-    (few : length columns ≤ 16) where
+module _ (columns before : List Spot) (x : Spot) {r : ℕ} (found : r ≡ Option·getD (columnOf columns (x .name)) mostColumns)
+    (few : length columns ≤ mostColumns) where
   -- a name that is no column is unknown
-  pub not-known : r ≡ 16 → numberIn 5 ≡ needFault columns before x
+  pub not-known : r ≡ mostColumns → numberIn nameUnknown ≡ needFault columns before x
   unfolding needFault numberIn standsIn columnOf
   not-known e = go (standsIn columns x) refl
     where
-      go : (b : Bool) → standsIn columns x ≡ b → _≡_ {A = Option ℕ} (some 5) (cond b none (some 5))
+      go : (b : Bool) → standsIn columns x ≡ b → _≡_ {A = Option ℕ} (some nameUnknown) (cond b none (some nameUnknown))
       go true f =
           let first = first-below (λ c. sameName (c .name) (x .name)) columns f in
           absurd (omega (arith, first .2, rw (first .1) at found))
       go false f = refl
 
   -- else it is known
-  pub known : (r ≡ 16 → ⊥) → numberIn 0 ≡ needFault columns before x
+  pub known : (r ≡ mostColumns → ⊥) → numberIn 0 ≡ needFault columns before x
   unfolding needFault numberIn standsIn columnOf
   known n = go (standsIn columns x) refl
     where
-      none-there : standsIn columns x ≡ false → r ≡ 16
+      none-there : standsIn columns x ≡ false → r ≡ mostColumns
       none-there f = found ∙ rw (none-first (λ c. sameName (c .name) (x .name)) columns f)
 
-      go : (b : Bool) → standsIn columns x ≡ b → _≡_ {A = Option ℕ} none (cond b none (some 5))
+      go : (b : Bool) → standsIn columns x ≡ b → _≡_ {A = Option ℕ} none (cond b none (some nameUnknown))
       go true f = refl
       go false f = absurd (n (none-there f))
 

@@ -20,6 +20,7 @@ ghost use mathlib.Core.Path.{_≡_};
 ghost use mathlib.Core.List.{List};
 ghost use mathlib.Core.Option.{Option·map};
 ghost use Prim.Native.Nat.{ℕ};
+ghost use Rattle.rules.specs.Numbers.{mostForbidden, mostNeeds};
 ghost use Rattle.rules.specs.Signs.{forbidKey, needKey};
 ghost use Rattle.rules.specs.Names.{Spot};
 ghost use Rattle.rules.specs.Refusals.{tooMany};
@@ -52,7 +53,7 @@ fn name_over(text: &[u8], from: usize, most: usize) -> Fault
 // The 33rd forbid line.
 fn forbid_over(text: &[u8], from: usize) -> Fault
     ensures { λ r. ⌜ ((q : ℕ) (rows : List (Line (List Spot))) → Rows (now (text .entry)) forbidKey from q rows
-        → refusalIn r ≡ Option·map (refusal tooMany) (lineAfter 32 rows)) ⌝ }
+        → refusalIn r ≡ Option·map (refusal tooMany) (lineAfter mostForbidden rows)) ⌝ }
 {
     let mut count = 0;
     let mut place = from;
@@ -72,7 +73,7 @@ fn forbid_over(text: &[u8], from: usize) -> Fault
 // The 33rd name of a need line, or the 9th need line.
 fn need_over(text: &[u8], from: usize) -> Fault
     ensures { λ r. ⌜ ((q : ℕ) (rows : List (Line (List Spot))) → Rows (now (text .entry)) needKey from q rows
-        → refusalIn r ≡ Option·map (refusal tooMany) (rowsOver 8 rows)) ⌝ }
+        → refusalIn r ≡ Option·map (refusal tooMany) (rowsOver mostNeeds rows)) ⌝ }
 {
     let before = width(Section::Need);
     let mut count = 0;

@@ -21,6 +21,7 @@ ghost use mathlib.Core.Bool.{true};
 ghost use mathlib.Core.List.{List, [], map};
 ghost use Prim.Native.Nat.{ℕ, _≤_};
 ghost use lib.ListN.{length};
+ghost use Rattle.rules.specs.Sets.{mostColumns};
 ghost use Rattle.rules.specs.Signs.{byteAt, inName};
 ghost use Rattle.rules.specs.Names.{Spot, spot, Run};
 ghost use Rattle.rules.specs.Texts.{Line, Sheet, OfForm};
@@ -43,7 +44,7 @@ fn repeated(text: &[u8], from: usize, at: usize) -> u16
 
 // 5 if the name is no column, else 0.
 fn unknown(text: &[u8], at: usize) -> u16
-    ensures { λ r. ⌜ ((p q : ℕ) (columns before : List Spot) → Words (now (text .entry)) columnsFrom q columns → length columns ≤ 16
+    ensures { λ r. ⌜ ((p q : ℕ) (columns before : List Spot) → Words (now (text .entry)) columnsFrom q columns → length columns ≤ mostColumns
         → Run (now (text .entry)) at p → numberIn r ≡ needFault columns before (spot (now (text .entry)) at p)) ⌝ }
 {
     if column_of(text, at) == ColumnSet::MOST_COLUMNS {
@@ -55,7 +56,7 @@ fn unknown(text: &[u8], at: usize) -> u16
 
 // The number of a name's fault in a line of this kind, 0 if it has none.
 fn fault_of(text: &[u8], section: Section, from: usize, at: usize) -> u16
-    ensures { λ r. ⌜ ((p q : ℕ) (columns before : List Spot) → Words (now (text .entry)) columnsFrom q columns → length columns ≤ 16
+    ensures { λ r. ⌜ ((p q : ℕ) (columns before : List Spot) → Words (now (text .entry)) columnsFrom q columns → length columns ≤ mostColumns
         → Between (now (text .entry)) from at before → inName (byteAt (now (text .entry)) at) ≡ true → Run (now (text .entry)) at p
         → numberIn r ≡ faultBy section columns before (spot (now (text .entry)) at p)) ⌝ }
 {
@@ -74,7 +75,7 @@ fn fault_of(text: &[u8], section: Section, from: usize, at: usize) -> u16
 
 // The first name at fault in a line, whose names stand from a place on.
 fn line_fault(text: &[u8], section: Section, from: usize) -> Fault
-    ensures { λ r. ⌜ ((q to : ℕ) (columns names : List Spot) → Words (now (text .entry)) columnsFrom q columns → length columns ≤ 16
+    ensures { λ r. ⌜ ((q to : ℕ) (columns names : List Spot) → Words (now (text .entry)) columnsFrom q columns → length columns ≤ mostColumns
         → Words (now (text .entry)) from to names → refusalIn r ≡ firstNameFault (faultBy section columns) [] names) ⌝ }
 {
     let mut place = next_name(text, from);
@@ -91,7 +92,7 @@ fn line_fault(text: &[u8], section: Section, from: usize) -> Fault
 // The first name at fault in the lines of a kind from a place on.
 fn lines_fault(text: &[u8], section: Section, from: usize) -> Fault
     ensures { λ r. ⌜ ((q to : ℕ) (columns : List Spot) (rows : List (Line (List Spot))) → Words (now (text .entry)) columnsFrom q columns
-        → length columns ≤ 16 → Rows (now (text .entry)) (keyOf section) from to rows
+        → length columns ≤ mostColumns → Rows (now (text .entry)) (keyOf section) from to rows
         → refusalIn r ≡ linesFault (faultBy section columns) (map (λ l. l .value) rows)) ⌝ }
 {
     let before = width(section);
@@ -109,7 +110,7 @@ fn lines_fault(text: &[u8], section: Section, from: usize) -> Fault
 // Of a text with no more than 16 columns.
 pub fn names_fault(text: &[u8], places: Places) -> Fault
     ensures { λ r. ⌜ ((sheet : Sheet) (form : OfForm (now (text .entry)) sheet) → Sectioned (now (text .entry)) sheet form places
-        → length (sheet .columns) ≤ 16 → refusalIn r ≡ namesFault sheet) ⌝ }
+        → length (sheet .columns) ≤ mostColumns → refusalIn r ≡ namesFault sheet) ⌝ }
 {
     let column = line_fault(text, Section::Columns, COLUMNS_FROM);
     if column.number != 0 {

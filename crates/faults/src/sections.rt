@@ -1,4 +1,5 @@
 // Where the lines of each kind begin in a text of the form.
+use naming::known::COLUMNS_FROM;
 use naming::signs::stands;
 use naming::words::line_end;
 ghost use mathlib.Core.Path.{_≡_};
@@ -36,7 +37,7 @@ pub fn width(section: Section) -> usize
     ensures { λ r. ⌜ r ≡ widthOf section ⌝ }
 {
     match section {
-        Section::Columns => 8,
+        Section::Columns => COLUMNS_FROM,
         Section::Forbid => 7,
         Section::Need => 5,
     }

@@ -1,7 +1,6 @@
 -- A name sought among others: what is known while they are gone through. Assumes nothing.
 use mathlib.Core.Path.{_≡_, refl, ap, _∙_}
-use mathlib.Core.Logic.{_⊎_, inl, inr}
-use mathlib.Core.Bool.{Bool, true, false, cond, true≢false}
+use mathlib.Core.Bool.{Bool, true, false}
 use mathlib.Core.List.{List, [], _∷_}
 use mathlib.Core.Option.{Option, none, some, Option·map, Option·getD}
 use Prim.Native.Nat.{ℕ, suc, _+_, _<_, _≤_}
@@ -9,6 +8,7 @@ use native.Mathlib.Nat.{zero-add}
 use native.Mathlib.Omega.{arith}
 use lib.ListN.{length}
 use Rattle.rules.specs.Lists.{anyOf, firstWhere}
+use Rattle.rules.specs.Sets.{mostColumns}
 use Rattle.rules.specs.Signs.{byteAt, piece, inName}
 use Rattle.rules.specs.Names.{Spot, Run, sameName}
 use Rattle.rules.specs.Sheets.{columnOf, columnIn, standsIn}
@@ -111,21 +111,21 @@ sought-start {s} {p} {place} {q} {name} {columns} w k =
     go (some k) = rw zero-add
 
 module _ {s : List ℕ} {place q column : ℕ} {name : List ℕ} {columns : List Spot} (sought : Sought s place q column name columns) where
-  sought-nothing : sought .later ≡ [] → Option·getD (columnOf columns name) 16 ≡ 16
+  sought-nothing : sought .later ≡ [] → Option·getD (columnOf columns name) mostColumns ≡ mostColumns
   unfolding columnOf firstWhere
   sought-nothing e = rw (sought .finds, e)
 
   -- where no name stands it is no column
-  pub sought-none : inName (byteAt s place) ≡ false → Option·getD (columnOf columns name) 16 ≡ 16
+  pub sought-none : inName (byteAt s place) ≡ false → Option·getD (columnOf columns name) mostColumns ≡ mostColumns
   sought-none e = sought-nothing (ahead-end (sought .ahead) e .1)
 
   -- when 16 columns are past it is no column
-  pub sought-all : 16 ≤ column → length columns ≤ 16 → Option·getD (columnOf columns name) 16 ≡ 16
+  pub sought-all : mostColumns ≤ column → length columns ≤ mostColumns → Option·getD (columnOf columns name) mostColumns ≡ mostColumns
   sought-all h few = sought-nothing (none-left (sought .later) (omega (arith, sought .many)))
 
   -- where the same name stands it is that column
   pub sought-here : inName (byteAt s place) ≡ true → ((r : ℕ) → Run s place r → sameName (piece s place r) name ≡ true)
-      → Option·getD (columnOf columns name) 16 ≡ column
+      → Option·getD (columnOf columns name) mostColumns ≡ column
   unfolding columnOf firstWhere
   sought-here e same =
       let f = words-some (sought .ahead .words) e in
@@ -150,18 +150,18 @@ module _ {s : List ℕ} {place q column : ℕ} {name : List ℕ} {columns : List
 
 -- ---- the column, or 0
 
-module _ (columns : List Spot) (x : Spot) {r : ℕ} (found : r ≡ Option·getD (columnOf columns (x .name)) 16) where
+module _ (columns : List Spot) (x : Spot) {r : ℕ} (found : r ≡ Option·getD (columnOf columns (x .name)) mostColumns) where
   -- a column that was found is the name's column
-  pub known-column : r < 16 → r ≡ columnIn columns x
+  pub known-column : r < mostColumns → r ≡ columnIn columns x
   unfolding columnIn
   known-column h = go (columnOf columns (x .name)) found
     where
-      go : (o : Option ℕ) → r ≡ Option·getD o 16 → r ≡ Option·getD o 0
+      go : (o : Option ℕ) → r ≡ Option·getD o mostColumns → r ≡ Option·getD o 0
       go none e = absurd (omega arith)
       go (some k) e = e
 
   -- where none was found the name's column is 0
-  pub unknown-column : length columns ≤ 16 → 16 ≤ r → 0 ≡ columnIn columns x
+  pub unknown-column : length columns ≤ mostColumns → mostColumns ≤ r → 0 ≡ columnIn columns x
   unfolding columnIn columnOf standsIn
   unknown-column few h = go (standsIn columns x) refl
     where

@@ -5,7 +5,7 @@ use mathlib.Core.List.{List, [], _∷_}
 use Prim.Native.Nat.{ℕ, _+_, _<_, _≤_}
 use lib.Dec.{eqb}
 use lib.ListN.{length}
-use Rattle.rules.specs.Signs.{byteAt, Says, inName, lineEnd}
+use Rattle.rules.specs.Signs.{byteAt, Says, inName, lineEnd, columnsKey}
 use Rattle.rules.specs.Names.{Spot, spot, Name}
 use Rattle.rules.specs.Texts.{Line, line}
 
@@ -46,4 +46,4 @@ pub data Rows (s key : List ℕ) : ℕ → ℕ → List (Line (List Spot)) → T
 
 -- the names of the columns stand behind `columns=`
 abbrev pub columnsFrom : ℕ
-columnsFrom = 8
+columnsFrom = length columnsKey

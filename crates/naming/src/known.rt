@@ -8,8 +8,9 @@ use columns::ColumnSet;
 ghost use mathlib.Core.Path.{_≡_};
 ghost use mathlib.Core.List.{List};
 ghost use mathlib.Core.Option.{Option·getD};
-ghost use Prim.Native.Nat.{ℕ, _≤_};
+ghost use Prim.Native.Nat.{ℕ, _<_, _≤_};
 ghost use lib.ListN.{length};
+ghost use Rattle.rules.specs.Sets.{mostColumns};
 ghost use Rattle.rules.specs.Signs.{piece};
 ghost use Rattle.rules.specs.Names.{Spot, spot, Run};
 ghost use Rattle.rules.specs.Sheets.{columnOf, columnIn};
@@ -20,9 +21,9 @@ pub const COLUMNS_FROM: usize = 8;
 
 // The column that the name at a place is, or 16 if it is none.
 pub fn column_of(text: &[u8], at: usize) -> u16
-    ensures few { λ r. ⌜ r ≤ 16 ⌝ }
-    ensures is { λ r. ⌜ ((p q : ℕ) (columns : List Spot) → Words (now (text .entry)) columnsFrom q columns → length columns ≤ 16
-        → Run (now (text .entry)) at p → r ≡ Option·getD (columnOf columns (piece (now (text .entry)) at p)) 16) ⌝ }
+    ensures few { λ r. ⌜ r ≤ mostColumns ⌝ }
+    ensures is { λ r. ⌜ ((p q : ℕ) (columns : List Spot) → Words (now (text .entry)) columnsFrom q columns → length columns ≤ mostColumns
+        → Run (now (text .entry)) at p → r ≡ Option·getD (columnOf columns (piece (now (text .entry)) at p)) mostColumns) ⌝ }
 {
     let mut column: u16 = 0;
     let mut place = next_name(text, COLUMNS_FROM);
@@ -41,8 +42,8 @@ pub fn column_of(text: &[u8], at: usize) -> u16
 
 // The same, but 0 if it is none.
 pub fn column_in(text: &[u8], at: usize) -> u16
-    ensures few { λ r. ⌜ r ≤ 15 ⌝ }
-    ensures is { λ r. ⌜ ((p q : ℕ) (columns : List Spot) → Words (now (text .entry)) columnsFrom q columns → length columns ≤ 16
+    ensures few { λ r. ⌜ r < mostColumns ⌝ }
+    ensures is { λ r. ⌜ ((p q : ℕ) (columns : List Spot) → Words (now (text .entry)) columnsFrom q columns → length columns ≤ mostColumns
         → Run (now (text .entry)) at p → r ≡ columnIn columns (spot (now (text .entry)) at p)) ⌝ }
 {
     let column = column_of(text, at);

@@ -6,7 +6,9 @@ use mathlib.Core.Option.{none}
 use Prim.Native.Nat.{ℕ, _≤_, _<_}
 use native.Mathlib.Omega.{arith}
 use lib.ListN.{length, take}
-use Rattle.rules.specs.Numbers.{Numbers, unfit}
+use Rattle.rules.specs.Sets.{mostColumns}
+use Rattle.rules.specs.Numbers.{Numbers, unfit, mostForbidden}
+use Rattle.rules.specs.Refusals.{textTooLong, textNotOfForm}
 use Rattle.rules.specs.Signs.{forbidKey}
 use Rattle.rules.specs.Names.{Spot}
 use Rattle.rules.specs.Phrases.{Formula}
@@ -40,7 +42,7 @@ module _ {s : List ℕ} {sheet : Sheet} (form : OfForm s sheet) (right : sheetFa
   words : Words s columnsFrom (form .columnsTo) (sheet .columns)
   words = laid form .columns
 
-  few : length (sheet .columns) ≤ 16
+  few : length (sheet .columns) ≤ mostColumns
   few = counts s sheet form right .fewColumns
 
   room : length (marksOf [] (sheet .needs)) ≤ 512
@@ -55,13 +57,13 @@ module _ {s : List ℕ} {sheet : Sheet} (form : OfForm s sheet) (right : sheetFa
 
     -- all sets are read
     pub sets-read : {count : ℕ} {new : List ℕ}
-        → ((q to : ℕ) (columns : List Spot) (rows : List (Line (List Spot))) → Words s columnsFrom q columns → length columns ≤ 16
-        → Rows s forbidKey (places .forbids) to rows → length rows ≤ 32 → SetsWritten columns rows count new)
+        → ((q to : ℕ) (columns : List Spot) (rows : List (Line (List Spot))) → Words s columnsFrom q columns → length columns ≤ mostColumns
+        → Rows s forbidKey (places .forbids) to rows → length rows ≤ mostForbidden → SetsWritten columns rows count new)
         → SetsWritten (sheet .columns) (sheet .forbids) count new
     sets-read f = f _ _ (sheet .columns) (sheet .forbids) words few (forbid-rows form at) (counts s sheet form right .fewForbids)
 
     -- and fill no more than 32 places
-    pub sets-few : {count : ℕ} {new : List ℕ} → SetsWritten (sheet .columns) (sheet .forbids) count new → count ≤ 32
+    pub sets-few : {count : ℕ} {new : List ℕ} → SetsWritten (sheet .columns) (sheet .forbids) count new → count ≤ mostForbidden
     sets-few w = omega (arith, w .many, counts s sheet form right .fewForbids)
 
     -- all marks are read
@@ -82,7 +84,7 @@ module _ {s : List ℕ} {sheet : Sheet} (form : OfForm s sheet) (right : sheetFa
 
   -- and with the names they are the answer
   pub read-whole : {table : Table} {sets marks : List ℕ} {many marked : ℕ}
-      → ((q : ℕ) (columns : List Spot) → Words s columnsFrom q columns → length columns ≤ 16 → Tabled columns table)
+      → ((q : ℕ) (columns : List Spot) → Words s columnsFrom q columns → length columns ≤ mostColumns → Tabled columns table)
       → SetsWritten (sheet .columns) (sheet .forbids) many sets → MarksWritten s (sheet .needs) marked marks → (l : Loaded)
       → l ≡ loaded (record { columns = table .columns; forbidden = take many sets; marks = take marked marks })
       → record { refusal = 0; place = 0; job = l .job; names = table .names } ≡ readOf (readingOf sheet)
@@ -97,12 +99,12 @@ module _ {s : List ℕ} {sheet : Sheet} (form : OfForm s sheet) (right : sheetFa
 -- ---- the ways of the call
 
 -- a text over 8,192 bytes
-pub too-long-takes : {s : List ℕ} {r : JobRead} → mostBytes < length s → r ≡ readOf (refused 1 mostBytes) → Takes s r
-too-long-takes h e = record { reading = refused 1 mostBytes; reads = too-long h; answered = e }
+pub too-long-takes : {s : List ℕ} {r : JobRead} → mostBytes < length s → r ≡ readOf (refused textTooLong mostBytes) → Takes s r
+too-long-takes h e = record { reading = refused textTooLong mostBytes; reads = too-long h; answered = e }
 
 -- a text not of the form
-pub stops-takes : {s : List ℕ} {r : JobRead} {p : ℕ} → length s ≤ mostBytes → StopsAt s p → r ≡ readOf (refused 2 p) → Takes s r
-stops-takes {p} h stops e = record { reading = refused 2 p; reads = not-of-form h stops; answered = e }
+pub stops-takes : {s : List ℕ} {r : JobRead} {p : ℕ} → length s ≤ mostBytes → StopsAt s p → r ≡ readOf (refused textNotOfForm p) → Takes s r
+stops-takes {p} h stops e = record { reading = refused textNotOfForm p; reads = not-of-form h stops; answered = e }
 
 -- a text with a fault
 pub fault-takes : {s : List ℕ} {r : JobRead} (sheet : Sheet) (f : Fault) → length s ≤ mostBytes → OfForm s sheet → refusalIn f ≡ sheetFault sheet

@@ -4,6 +4,7 @@ use mathlib.Core.List.{List, [], _∷_, _++_, append-assoc, append-nil}
 use Prim.Native.Nat.{ℕ, _+_, _≤_, _<_}
 use native.Mathlib.Omega.{arith}
 use lib.ListN.{length, set, take, length-append, length-set}
+use Rattle.rules.specs.Sets.{mostColumns}
 use Rattle.rules.specs.Marks.{endMark}
 use Rattle.rules.specs.Signs.{byteAt, Says, needKey, lineEnd}
 use Rattle.rules.specs.Names.{Spot}
@@ -63,7 +64,7 @@ pub record Laying (s : List ℕ) (from place count : ℕ) (marks : List ℕ) : T
   pub ahead : NeedLines s place to left
   pub many : count ≡ length (marksOf [] done)
   pub fits : length (marksOf [] lines) ≤ length marks
-  pub laid : (q : ℕ) (columns : List Spot) → Words s columnsFrom q columns → length columns ≤ 16 → take count marks ≡ marksOf columns done
+  pub laid : (q : ℕ) (columns : List Spot) → Words s columnsFrom q columns → length columns ≤ mostColumns → take count marks ≡ marksOf columns done
 
 -- before the first line
 pub laying-none : {s : List ℕ} {from : ℕ} {marks : List ℕ} → Markable s from (length marks) → Laying s from from 0 marks

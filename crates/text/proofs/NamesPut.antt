@@ -9,7 +9,7 @@ use lib.ListN.{length, set, take, drop, length-set, length-drop, take-append-dro
 use lib.Seq.{take-suc, getD-drop, length-take-le}
 use Rattle.rules.specs.Lists.{written}
 use Rattle.rules.specs.Signs.{byteAt, piece, inName}
-use Rattle.rules.specs.Names.{Run}
+use Rattle.rules.specs.Names.{Run, mostNameBytes}
 use Rattle.rules.proofs.Lists.{holds-fails}
 use Rattle.rules.proofs.Written.{written-last}
 use Rattle.rules.proofs.Names.{run-unique}
@@ -38,7 +38,7 @@ set-behind (x ∷ xs) ys i b =
 
 -- after i bytes: they are of a name, and stand in the table from a place on; all else is as it was
 pub record Put (s : List ℕ) (at from : ℕ) (old : List ℕ) (i : ℕ) (new : List ℕ) : Type 0 where
-  pub few : i ≤ 12
+  pub few : i ≤ mostNameBytes
   pub inside : at + i ≤ length s
   pub named : (j : ℕ) → at ≤ j → j < at + i → inName (byteAt s j) ≡ true
   pub long : length new ≡ length old
@@ -61,7 +61,7 @@ module _ (s : List ℕ) (at from : ℕ) (old : List ℕ) where
 
   module _ (i : ℕ) (new : List ℕ) (put : Put s at from old i new) where
     -- one byte more
-    pub put-more : i < 12 → from + 12 ≤ length old → inName (byteAt s (at + i)) ≡ true → Put s at from old (i + 1) (set new (from + i) (byteAt s (at + i)))
+    pub put-more : i < mostNameBytes → from + mostNameBytes ≤ length old → inName (byteAt s (at + i)) ≡ true → Put s at from old (i + 1) (set new (from + i) (byteAt s (at + i)))
     put-more h room e =
         let within : at + i < length s = named-inside s (at + i) e in
         let start : length (take from old) ≡ from = length-take-le from old (omega arith) in
@@ -90,7 +90,7 @@ module _ (s : List ℕ) (at from : ℕ) (old : List ℕ) where
         rw (run-unique run here) (put .holds)
 
     -- after 12 bytes a name of no more is written
-    pub put-full : 12 ≤ i → (p : ℕ) → Run s at p → p ≤ at + 12 → new ≡ take from old ++ written (piece s at p) (drop from old)
+    pub put-full : mostNameBytes ≤ i → (p : ℕ) → Run s at p → p ≤ at + mostNameBytes → new ≡ take from old ++ written (piece s at p) (drop from old)
     put-full h p run short =
         let past : at + i < suc p = lt-of-not-le (λ (l : suc p ≤ at + i). holds-fails _ (put .named p (run .forward) l) (run .ends)) in
         let same : p ≡ at + i = omega (arith, put .few) in

@@ -97,7 +97,7 @@ module _ {s : List ℕ} {r : JobRead} (a : Takes s r) where
   form-refused p = through (refuses textNotOfForm p (λ z. omega arith)) (not-of-form-exactly s p)
 
   -- else 3, 4, 5 or 6 exactly if what the text says has that fault at that place
-  pub fault-refused : (number p : ℕ) → 2 < number → Refuses number p ↔ Faulty s number p
+  pub fault-refused : (number p : ℕ) → textNotOfForm < number → Refuses number p ↔ Faulty s number p
   fault-refused number p h = through (refuses number p (λ z. omega arith)) (faulty-exactly s number p h)
 
   -- there is no other number

@@ -6,12 +6,13 @@ use Prim.Native.Nat.{ℕ, _+_, _-_, _*_, _≤_, _<_}
 use native.Mathlib.Omega.{arith}
 use lib.ListN.{length, take, drop, replicate, length-append, length-map, length-take}
 use Rattle.rules.specs.Lists.{written}
+use Rattle.rules.specs.Sets.{mostColumns}
 use Rattle.rules.specs.Signs.{byteAt, piece, inName}
-use Rattle.rules.specs.Names.{Spot, spot, Run}
+use Rattle.rules.specs.Names.{Spot, spot, Run, mostNameBytes}
 use Rattle.naming.specs.Words.{Words, Skips, columnsFrom}
 use Rattle.naming.proofs.Sought.{none-left}
 use Rattle.naming.proofs.Walks.{Ahead, ahead-start, ahead-turn, ahead-end}
-use Rattle.text.specs.Tables.{nameRows, nameTable, Tabled}
+use Rattle.text.specs.Tables.{tableBytes, nameRows, nameTable, Tabled}
 use Rattle.text.proofs.NameTables.{table-more}
 
 -- so many columns are read, and their names stand in the table
@@ -23,19 +24,19 @@ pub record Filled (s : List ℕ) (q : ℕ) (columns : List Spot) (place count : 
   pub many : count ≡ length done
   pub table : names ≡ nameTable (map (λ x. x .name) done)
 
-piece-short : (s : List ℕ) (p q : ℕ) → q ≤ p + 12 → length (piece s p q) ≤ 12
+piece-short : (s : List ℕ) (p q : ℕ) → q ≤ p + mostNameBytes → length (piece s p q) ≤ mostNameBytes
 piece-short s p q h = omega (arith, length-take (q - p) (drop p s))
 
 module _ {s : List ℕ} {q : ℕ} {columns : List Spot} where
   -- before the first column
-  pub filled-none : {place : ℕ} → Words s columnsFrom q columns → Skips s columnsFrom place → Filled s q columns place 0 (replicate 192 0)
+  pub filled-none : {place : ℕ} → Words s columnsFrom q columns → Skips s columnsFrom place → Filled s q columns place 0 (replicate tableBytes 0)
   unfolding nameTable nameRows written
   filled-none w k = record { done = []; left = columns; whole = refl; ahead = ahead-start w k; many = refl; table = refl }
 
   module _ {place count : ℕ} {names : List ℕ} (f : Filled s q columns place count names) where
     -- one column more
-    pub filled-more : {end next : ℕ} {new : List ℕ} → count < 16 → inName (byteAt s place) ≡ true → Run s place end → Skips s end next
-        → (end ≤ place + 12 → new ≡ take (12 * count) names ++ written (piece s place end) (drop (12 * count) names))
+    pub filled-more : {end next : ℕ} {new : List ℕ} → count < mostColumns → inName (byteAt s place) ≡ true → Run s place end → Skips s end next
+        → (end ≤ place + mostNameBytes → new ≡ take (mostNameBytes * count) names ++ written (piece s place end) (drop (mostNameBytes * count) names))
         → Filled s q columns next (count + 1) new
     filled-more {end} {next} {new} few e run skips put =
         let t = ahead-turn (f .ahead) e run skips in
@@ -50,8 +51,8 @@ module _ {s : List ℕ} {q : ℕ} {columns : List Spot} where
           many = omega (arith, f .many, length-append (f .done) (x ∷ []));
           table =
               put (t .name .short)
-              ∙ ap (λ (l : List ℕ). take (12 * count) l ++ written (x .name) (drop (12 * count) l)) (f .table)
-              ∙ ap (λ (k : ℕ). take (12 * k) (nameTable before) ++ written (x .name) (drop (12 * k) (nameTable before))) many
+              ∙ ap (λ (l : List ℕ). take (mostNameBytes * count) l ++ written (x .name) (drop (mostNameBytes * count) l)) (f .table)
+              ∙ ap (λ (k : ℕ). take (mostNameBytes * k) (nameTable before) ++ written (x .name) (drop (mostNameBytes * k) (nameTable before))) many
               ∙ table-more before (x .name) (omega (arith, many)) (piece-short s place end (t .name .short))
               ∙ ap nameTable (sym (map-append (λ (y : Spot). y .name) (f .done) (x ∷ [])));
         }
@@ -66,6 +67,6 @@ module _ {s : List ℕ} {q : ℕ} {columns : List Spot} where
     filled-end e = filled-all (ahead-end (f .ahead) e .1)
 
     -- where 16 columns are read there are no more
-    pub filled-full : 16 ≤ count → length columns ≤ 16 → Tabled columns (record { columns = count; names = names })
+    pub filled-full : mostColumns ≤ count → length columns ≤ mostColumns → Tabled columns (record { columns = count; names = names })
     filled-full h few =
         filled-all (none-left (f .left) (omega (arith, f .many, ap length (f .whole), length-append (f .done) (f .left))))

@@ -3,7 +3,7 @@ use mathlib.Core.Path.{_≡_}
 use mathlib.Core.List.{List, [], map}
 use Prim.Native.Nat.{ℕ, _≤_}
 use lib.ListN.{length, take}
-use Rattle.rules.specs.Sets.{empty}
+use Rattle.rules.specs.Sets.{empty, mostColumns}
 use Rattle.rules.specs.Signs.{needKey}
 use Rattle.rules.specs.Names.{Spot}
 use Rattle.rules.specs.Phrases.{Formula, ors, list, mostBrackets, Stands}
@@ -30,4 +30,4 @@ pub record Markable (s : List ℕ) (p room : ℕ) : Type 0 where
 -- the marks of need lines are counted and stand in the first places
 pub record MarksWritten (s : List ℕ) (lines : List (Line Formula)) (count : ℕ) (new : List ℕ) : Type 0 where
   pub many : count ≡ length (marksOf [] lines)
-  pub marks : (to : ℕ) (columns : List Spot) → Words s columnsFrom to columns → length columns ≤ 16 → take count new ≡ marksOf columns lines
+  pub marks : (to : ℕ) (columns : List Spot) → Words s columnsFrom to columns → length columns ≤ mostColumns → take count new ≡ marksOf columns lines

@@ -13,7 +13,7 @@ ghost use mathlib.Core.Path.{_≡_};
 ghost use mathlib.Core.List.{List};
 ghost use Prim.Native.Nat.{ℕ, _≤_};
 ghost use lib.ListN.{length};
-ghost use Rattle.rules.specs.Sets.{empty};
+ghost use Rattle.rules.specs.Sets.{empty, mostColumns};
 ghost use Rattle.rules.specs.Signs.{forbidKey};
 ghost use Rattle.rules.specs.Names.{Spot};
 ghost use Rattle.rules.specs.Texts.{Line};
@@ -23,7 +23,7 @@ ghost use Rattle.text.specs.Built.{SetsWritten};
 
 // The columns that a line names from a place on.
 fn set_of(text: &[u8], from: usize) -> u16
-    ensures { λ r. ⌜ ((q to : ℕ) (columns names : List Spot) → Words (now (text .entry)) columnsFrom q columns → length columns ≤ 16
+    ensures { λ r. ⌜ ((q to : ℕ) (columns names : List Spot) → Words (now (text .entry)) columnsFrom q columns → length columns ≤ mostColumns
         → Words (now (text .entry)) from to names → r ≡ setWith columns empty names) ⌝ }
 {
     let mut set = ColumnSet::EMPTY;
@@ -40,7 +40,7 @@ fn set_of(text: &[u8], from: usize) -> u16
 // Writes the sets of the forbid lines from a place on over the first places of the slice, as far as there are places, and says how many.
 pub fn forbidden_sets(text: &[u8], from: usize, sets: &mut [u16]) -> usize
     ensures { λ r. ⌜ ((q to : ℕ) (columns : List Spot) (rows : List (Line (List Spot))) → Words (now (text .entry)) columnsFrom q columns
-        → length columns ≤ 16 → Rows (now (text .entry)) forbidKey from to rows → length rows ≤ length (now (sets .entry))
+        → length columns ≤ mostColumns → Rows (now (text .entry)) forbidKey from to rows → length rows ≤ length (now (sets .entry))
         → SetsWritten columns rows r (now (sets .exit))) ⌝ }
 {
     let before = width(Section::Forbid);

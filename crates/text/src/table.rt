@@ -10,8 +10,9 @@ ghost use mathlib.Core.List.{List, _++_};
 ghost use Prim.Native.Nat.{ℕ, _+_, _≤_};
 ghost use lib.ListN.{length, take, drop};
 ghost use Rattle.rules.specs.Lists.{written};
+ghost use Rattle.rules.specs.Sets.{mostColumns};
 ghost use Rattle.rules.specs.Signs.{piece};
-ghost use Rattle.rules.specs.Names.{Spot, Run};
+ghost use Rattle.rules.specs.Names.{Spot, Run, mostNameBytes};
 ghost use Rattle.naming.specs.Words.{Words, columnsFrom};
 ghost use Rattle.text.specs.Tables.{Tabled};
 
@@ -28,8 +29,8 @@ pub struct Table {
 
 // The name at a place of the text, written from a place of the table on.
 fn put_name(names: &mut [u8], from: usize, text: &[u8], at: usize)
-    requires { ⌜ (from + 12 ≤ length (now names)) × (at ≤ length (now text)) ⌝ }
-    ensures { λ _. ⌜ ((p : ℕ) → Run (now (text .entry)) at p → p ≤ at + 12
+    requires { ⌜ (from + mostNameBytes ≤ length (now names)) × (at ≤ length (now text)) ⌝ }
+    ensures { λ _. ⌜ ((p : ℕ) → Run (now (text .entry)) at p → p ≤ at + mostNameBytes
         → now (names .exit) ≡ take from (now (names .entry)) ++ written (piece (now (text .entry)) at p) (drop from (now (names .entry)))) ⌝ }
 {
     let mut i = 0;
@@ -44,7 +45,7 @@ fn put_name(names: &mut [u8], from: usize, text: &[u8], at: usize)
 }
 
 pub fn name_table(text: &[u8]) -> Table
-    ensures { λ r. ⌜ ((q : ℕ) (columns : List Spot) → Words (now (text .entry)) columnsFrom q columns → length columns ≤ 16 → Tabled columns r) ⌝ }
+    ensures { λ r. ⌜ ((q : ℕ) (columns : List Spot) → Words (now (text .entry)) columnsFrom q columns → length columns ≤ mostColumns → Tabled columns r) ⌝ }
 {
     let mut names = [0u8; NAMES];
     let mut columns: usize = 0;

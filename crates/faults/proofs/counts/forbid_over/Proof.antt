@@ -4,6 +4,7 @@ use mathlib.Core.List.{List}
 use Prim.Native.Nat.{ℕ, _-_, _<_, _≤_}
 use native.Mathlib.Omega.{arith}
 use lib.ListN.{length}
+use Rattle.rules.specs.Numbers.{mostForbidden}
 use Rattle.rules.specs.Signs.{forbidKey}
 use Rattle.rules.specs.Names.{Spot}
 use Rattle.rules.specs.Texts.{Line, line}
@@ -18,8 +19,8 @@ use Rattle.faults.proofs.counts.forbid_over.Tie as tie
 
 abbrev Inv-loop : tie.InvT-loop
 Inv-loop text from count₀ place₀ count place =
-    (count ≤ 32) × ((q : ℕ) (rows : List (Line (List Spot))) → Rows text forbidKey from q rows
-    → RowsLeft text forbidKey place q (λ later. lineAfter 32 rows ≡ lineAfter (32 - count) later))
+    (count ≤ mostForbidden) × ((q : ℕ) (rows : List (Line (List Spot))) → Rows text forbidKey from q rows
+    → RowsLeft text forbidKey place q (λ later. lineAfter mostForbidden rows ≡ lineAfter (mostForbidden - count) later))
 
 abbrev μ-loop : tie.MeasureT-loop
 μ-loop text from count₀ place₀ count place = length text - place
@@ -35,7 +36,7 @@ returns c =
     let l = c .before .before .before .loop in
     let here = c .before .before .key-stands .ensures .0 (c .before .if1 .taken) in
     λ q rows r. let h = row-here (l .inv .1 q rows r) here in
-    too-many (l .place) (h .4 ∙ line-after 32 (l .count) (line (l .place) (h .1)) (h .2) (c .if2 .taken))
+    too-many (l .place) (h .4 ∙ line-after mostForbidden (l .count) (line (l .place) (h .1)) (h .2) (c .if2 .taken))
 
 add-count : tie.Need-add-count Inv-loop μ-loop
 add-count c = search needs
@@ -57,10 +58,10 @@ loop-again c =
     let t = c .before .before in
     let here = t .before .key-stands .ensures .0 (t .if1 .taken) in
     let l = t .before .before .loop in
-    let more : l .count < 32 = omega (arith, l .inv .0, c .before .if2 .left) in (
+    let more : l .count < mostForbidden = omega (arith, l .inv .0, c .before .if2 .left) in (
       omega arith,
       λ q rows r. row-next (l .inv .1 q rows r) here (c .next-line .ensures .1)
-          (λ to names later w e. e ∙ line-counted 32 (l .count) (line (l .place) names) later more),
+          (λ to names later w e. e ∙ line-counted mostForbidden (l .count) (line (l .place) names) later more),
     )
 
 no-fault-requires : tie.Need-no-fault-requires Inv-loop μ-loop
@@ -71,7 +72,7 @@ returns-2 c =
     let t = c .before in
     let l = t .before .before .loop in
     let other = t .before .key-stands .ensures .1 (t .if1 .left) in
-    λ q rows r. not-many (c .no-fault .result) (c .no-fault .ensures) (row-end (l .inv .1 q rows r) other .1 ∙ no-line-after (32 - l .count))
+    λ q rows r. not-many (c .no-fault .result) (c .no-fault .ensures) (row-end (l .inv .1 q rows r) other .1 ∙ no-line-after (mostForbidden - l .count))
 
 pub forbid-over-spec : {M : Type 1} → statement M
 forbid-over-spec =

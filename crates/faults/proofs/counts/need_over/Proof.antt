@@ -5,6 +5,7 @@ use mathlib.Core.List.{List}
 use Prim.Native.Nat.{ℕ, _-_, _<_, _≤_}
 use native.Mathlib.Omega.{arith}
 use lib.ListN.{length}
+use Rattle.rules.specs.Numbers.{mostNeeds}
 use Rattle.rules.specs.Signs.{needKey}
 use Rattle.rules.specs.Names.{Spot}
 use Rattle.rules.specs.Texts.{Line, line}
@@ -19,8 +20,8 @@ use Rattle.faults.proofs.counts.need_over.Tie as tie
 
 abbrev Inv-loop : tie.InvT-loop
 Inv-loop text from before count₀ place₀ count place =
-    (count ≤ 8) × ((q : ℕ) (rows : List (Line (List Spot))) → Rows text needKey from q rows
-    → RowsLeft text needKey place q (λ later. rowsOver 8 rows ≡ rowsOver (8 - count) later))
+    (count ≤ mostNeeds) × ((q : ℕ) (rows : List (Line (List Spot))) → Rows text needKey from q rows
+    → RowsLeft text needKey place q (λ later. rowsOver mostNeeds rows ≡ rowsOver (mostNeeds - count) later))
 
 abbrev μ-loop : tie.MeasureT-loop
 μ-loop text from before count₀ place₀ count place = length text - place
@@ -40,7 +41,7 @@ returns c =
     let here = t .before .key-stands .ensures .0 (t .if1 .taken) in
     let l = t .before .before .loop in
     λ q rows r. let h = row-here (l .inv .1 q rows r) here in
-    too-many (l .place) (h .4 ∙ row-over 8 (l .count) (line (l .place) (h .1)) (h .2) (c .if2 .taken))
+    too-many (l .place) (h .4 ∙ row-over mostNeeds (l .count) (line (l .place) (h .1)) (h .2) (c .if2 .taken))
 
 add-name-over : tie.Need-add-name-over Inv-loop μ-loop
 add-name-over c =
@@ -58,10 +59,10 @@ returns-2 c =
     let t = n .before .before in
     let here = t .before .key-stands .ensures .0 (t .if1 .taken) in
     let l = t .before .before .loop in
-    let more : l .count < 8 = omega (arith, l .inv .0, n .before .if2 .left) in
+    let more : l .count < mostNeeds = omega (arith, l .inv .0, n .before .if2 .left) in
     λ q rows r. let h = row-here (l .inv .1 q rows r) here in
     rw (h .4)
-    (row-refused (n .name-over .result) 8 (l .count) (line (l .place) (h .1)) (h .2) more
+    (row-refused (n .name-over .result) mostNeeds (l .count) (line (l .place) (h .1)) (h .2) more
     (n .name-over .ensures (h .0) (h .1) (rw (t .before .before .before .width .ensures) (h .3))) (c .if3 .taken))
 
 add-count : tie.Need-add-count Inv-loop μ-loop
@@ -86,11 +87,11 @@ loop-again c =
     let t = n .before .before in
     let here = t .before .key-stands .ensures .0 (t .if1 .taken) in
     let l = t .before .before .loop in
-    let more : l .count < 8 = omega (arith, l .inv .0, n .before .if2 .left) in (
+    let more : l .count < mostNeeds = omega (arith, l .inv .0, n .before .if2 .left) in (
       omega arith,
       λ q rows r. row-next (l .inv .1 q rows r) here (c .next-line .ensures .1)
           (λ to names later w e.
-          e ∙ row-passed (n .name-over .result) 8 (l .count) (line (l .place) names) later more
+          e ∙ row-passed (n .name-over .result) mostNeeds (l .count) (line (l .place) names) later more
           (n .name-over .ensures to names (rw (t .before .before .before .width .ensures) w)) (c .before .if3 .left)),
     )
 
@@ -102,7 +103,7 @@ returns-3 c =
     let t = c .before in
     let l = t .before .before .loop in
     let other = t .before .key-stands .ensures .1 (t .if1 .left) in
-    λ q rows r. not-many (c .no-fault .result) (c .no-fault .ensures) (row-end (l .inv .1 q rows r) other .1 ∙ no-row-over (8 - l .count))
+    λ q rows r. not-many (c .no-fault .result) (c .no-fault .ensures) (row-end (l .inv .1 q rows r) other .1 ∙ no-row-over (mostNeeds - l .count))
 
 pub need-over-spec : {M : Type 1} → statement M
 need-over-spec =

@@ -4,6 +4,7 @@ use mathlib.Core.List.{List, [], _∷_, _++_}
 use Prim.Native.Nat.{ℕ, _-_, _≤_}
 use native.Mathlib.Omega.{arith}
 use lib.ListN.{length}
+use Rattle.rules.specs.Sets.{mostColumns}
 use Rattle.rules.specs.Names.{Spot, spot}
 use Rattle.naming.specs.Words.{Words, columnsFrom}
 use Rattle.rules.proofs.Signs.{named-inside}
@@ -17,7 +18,7 @@ use Rattle.faults.proofs.names.line_fault.Tie as tie
 
 abbrev Inv-loop : tie.InvT-loop
 Inv-loop text section from place₀ place =
-    (q to : ℕ) (columns names : List Spot) → Words text columnsFrom q columns → length columns ≤ 16 → Words text from to names
+    (q to : ℕ) (columns names : List Spot) → Words text columnsFrom q columns → length columns ≤ mostColumns → Words text from to names
     → NamesLeft text place to (RightBefore text (faultBy section columns) from place names)
 
 abbrev μ-loop : tie.MeasureT-loop

@@ -4,6 +4,7 @@ use mathlib.Core.List.{List, map}
 use Prim.Native.Nat.{ℕ, _-_, _≤_}
 use native.Mathlib.Omega.{arith}
 use lib.ListN.{length}
+use Rattle.rules.specs.Sets.{mostColumns}
 use Rattle.rules.specs.Names.{Spot}
 use Rattle.rules.specs.Texts.{Line, line}
 use Rattle.rules.specs.Sheets.{linesFault}
@@ -17,7 +18,7 @@ use Rattle.faults.proofs.names.lines_fault.Tie as tie
 
 abbrev Inv-loop : tie.InvT-loop
 Inv-loop text section from before place₀ place =
-    (q to : ℕ) (columns : List Spot) (rows : List (Line (List Spot))) → Words text columnsFrom q columns → length columns ≤ 16
+    (q to : ℕ) (columns : List Spot) (rows : List (Line (List Spot))) → Words text columnsFrom q columns → length columns ≤ mostColumns
     → Rows text (keyOf section) from to rows
     → RowsLeft text (keyOf section) place to
     (λ later. linesFault (faultBy section columns) (map (λ l. l .value) rows) ≡ linesFault (faultBy section columns) (map (λ l. l .value) later))

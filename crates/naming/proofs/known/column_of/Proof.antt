@@ -6,6 +6,7 @@ use Prim.Native.Nat.{ℕ, _-_, _≤_}
 use native.Mathlib.Omega.{arith}
 use borrow.Author.Tests.{not-true, not-false}
 use borrow.Author.Needs.{needs}
+use Rattle.rules.specs.Sets.{mostColumns}
 use Rattle.rules.specs.Signs.{piece}
 use Rattle.rules.specs.Names.{Spot, Run}
 use Rattle.naming.specs.Words.{Words, columnsFrom}
@@ -16,11 +17,11 @@ use Rattle.naming.proofs.known.column_of.Tie as tie
 
 abbrev Inv-loop : tie.InvT-loop
 Inv-loop text at column₀ place₀ column place =
-    (column ≤ 16) × ((p q : ℕ) (columns : List Spot) → Words text columnsFrom q columns → Run text at p
+    (column ≤ mostColumns) × ((p q : ℕ) (columns : List Spot) → Words text columnsFrom q columns → Run text at p
     → Sought text place q column (piece text at p) columns)
 
 abbrev μ-loop : tie.MeasureT-loop
-μ-loop text at column₀ place₀ column place = 16 - column
+μ-loop text at column₀ place₀ column place = mostColumns - column
 
 next-name-requires : tie.Need-next-name-requires Inv-loop μ-loop
 next-name-requires c κs = search needs

@@ -3,6 +3,7 @@ use mathlib.Core.Path.{_≡_, refl, _∙_}
 use Prim.Native.Nat.{_-_}
 use native.Mathlib.Omega.{arith}
 use lib.ListN.{length, length-set}
+use Rattle.rules.specs.Marks.{endMark}
 use Rattle.faults.specs.declared.sections.Section.the-variants.{Need}
 use Rattle.faults.proofs.Left.{key-inside}
 use Rattle.text.proofs.MarksLaid.{Laying, laying-none, laying-asks, laying-room, laying-more, laying-done}
@@ -88,7 +89,7 @@ loop-again c =
     let marked = rw (c .before .before .before .before .before .before .before .before .width .ensures) at (read .ensures) in
     let room = laying-room (l .inv .1) here marked (read .kept .1 .1 .0) in
     let long = read .kept .1 .1 .0 in
-    (length-set (read .last .1 .1 .0) (read .result .marked) 18 ∙ long ∙ l .inv .0, laying-more (l .inv .1) here marked long)
+    (length-set (read .last .1 .1 .0) (read .result .marked) endMark ∙ long ∙ l .inv .0, laying-more (l .inv .1) here marked long)
 
 same-length : tie.Need-same-length Inv-loop μ-loop
 same-length c = search needs

@@ -5,6 +5,7 @@ use Prim.Native.Nat.{ℕ, _-_, _≤_}
 use native.Mathlib.Omega.{arith}
 use lib.ListN.{length, length-set}
 use borrow.Author.Tests.{not-true, not-false}
+use Rattle.rules.specs.Sets.{mostColumns}
 use Rattle.rules.specs.Signs.{forbidKey}
 use Rattle.rules.specs.Names.{Spot}
 use Rattle.rules.specs.Texts.{Line}
@@ -19,7 +20,7 @@ use Rattle.text.proofs.sets.forbidden_sets.Tie as tie
 abbrev Inv-loop : tie.InvT-loop
 Inv-loop text from sets₀ before count₀ place₀ sets count place =
     (count ≤ length sets) × (length sets ≡ length sets₀)
-    × ((q to : ℕ) (columns : List Spot) (rows : List (Line (List Spot))) → Words text columnsFrom q columns → length columns ≤ 16
+    × ((q to : ℕ) (columns : List Spot) (rows : List (Line (List Spot))) → Words text columnsFrom q columns → length columns ≤ mostColumns
     → Rows text forbidKey from to rows → SetsLeft text columns rows to place count sets)
 
 abbrev μ-loop : tie.MeasureT-loop

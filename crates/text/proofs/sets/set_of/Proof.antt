@@ -4,7 +4,7 @@ use mathlib.Core.List.{List}
 use Prim.Native.Nat.{ℕ, _-_, _^_, _≤_}
 use native.Mathlib.Omega.{arith}
 use lib.ListN.{length}
-use Rattle.rules.specs.Sets.{union}
+use Rattle.rules.specs.Sets.{union, mostColumns}
 use Rattle.rules.specs.Names.{Spot}
 use Rattle.rules.proofs.SetBits.{bit-fits}
 use Rattle.naming.specs.Words.{Words, columnsFrom}
@@ -17,7 +17,7 @@ use Rattle.text.proofs.sets.set_of.Tie as tie
 
 abbrev Inv-loop : tie.InvT-loop
 Inv-loop text from set₀ place₀ set place =
-    (q to : ℕ) (columns names : List Spot) → Words text columnsFrom q columns → length columns ≤ 16 → Words text from to names
+    (q to : ℕ) (columns names : List Spot) → Words text columnsFrom q columns → length columns ≤ mostColumns → Words text from to names
     → Gathered text to columns names place (set .bits)
 
 abbrev μ-loop : tie.MeasureT-loop

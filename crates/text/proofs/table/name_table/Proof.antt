@@ -5,10 +5,12 @@ use Prim.Native.Nat.{ℕ, _-_, _≤_}
 use native.Mathlib.Omega.{arith}
 use lib.ListN.{length}
 use borrow.Author.Tests.{not-true, not-false}
+use Rattle.rules.specs.Sets.{mostColumns}
 use Rattle.rules.specs.Names.{Spot}
 use Rattle.naming.specs.Words.{Words, columnsFrom}
 use Rattle.rules.proofs.Signs.{named-inside}
 use Rattle.naming.proofs.Walks.{told}
+use Rattle.text.specs.Tables.{tableBytes}
 use Rattle.text.proofs.Tabling.{Filled, filled-none, filled-more, filled-end, filled-full}
 use borrow.Author.Needs.{needs}
 use Rattle.text.proofs.table.name_table.Statement.{statement}
@@ -16,10 +18,10 @@ use Rattle.text.proofs.table.name_table.Tie as tie
 
 abbrev Inv-loop : tie.InvT-loop
 Inv-loop text names₀ columns₀ place₀ names columns place =
-    (columns ≤ 16) × (length names ≡ 192) × ((q : ℕ) (known : List Spot) → Words text columnsFrom q known → Filled text q known place columns names)
+    (columns ≤ mostColumns) × (length names ≡ tableBytes) × ((q : ℕ) (known : List Spot) → Words text columnsFrom q known → Filled text q known place columns names)
 
 abbrev μ-loop : tie.MeasureT-loop
-μ-loop text names₀ columns₀ place₀ names columns place = 16 - columns
+μ-loop text names₀ columns₀ place₀ names columns place = mostColumns - columns
 
 next-name-requires : tie.Need-next-name-requires Inv-loop μ-loop
 next-name-requires c κs = search needs

@@ -3,6 +3,7 @@ use Prim.Native.Nat.{_-_}
 use native.Mathlib.Omega.{arith}
 use borrow.Author.Needs.{needs}
 use borrow.Author.Tests.{not-true, not-false}
+use Rattle.rules.specs.Names.{mostNameBytes}
 use Rattle.naming.proofs.Walks.{told}
 use Rattle.text.proofs.NamesPut.{Put, put-none, put-more, put-ends, put-full}
 use Rattle.text.proofs.table.put_name.Statement.{statement}
@@ -12,7 +13,7 @@ abbrev Inv-loop : tie.InvT-loop
 Inv-loop names₀ from text at i₀ names i = Put text at from names₀ i names
 
 abbrev μ-loop : tie.MeasureT-loop
-μ-loop names₀ from text at i₀ names i = 12 - i
+μ-loop names₀ from text at i₀ names i = mostNameBytes - i
 
 loop-holds : tie.Need-loop-holds Inv-loop μ-loop
 loop-holds c = let s = c .before .before in put-none (s .args .text .now) (s .args .at) (s .args .from) (s .args .names .now) (s .pre .1)
