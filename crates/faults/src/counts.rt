@@ -95,6 +95,7 @@ fn need_over(text: &[u8], from: usize) -> Fault
     no_fault()
 }
 
+// The first of all that is too many: a column, a forbid line, or a name or line of the needs.
 pub fn over(text: &[u8], places: Places) -> Fault
     ensures { λ r. ⌜ ((sheet : Sheet) (form : OfForm (now (text .entry)) sheet) → Sectioned (now (text .entry)) sheet form places
         → refusalIn r ≡ Option·map (refusal tooMany) (firstOver sheet)) ⌝ }

@@ -31,6 +31,7 @@ fn number(text: &[u8], at: usize) -> usize
     ensures { λ r. ⌜ ((q n : ℕ) → Number (now (text .entry)) at q n → byteAt (now (text .entry)) q ≡ lineEnd → r ≡ n) ⌝ }
 {
     let one = worth(byte(text, at));
+    // so that the sum can't overflow; never so in a text of the form
     if text.len() <= at {
         return one;
     }
@@ -41,10 +42,12 @@ fn number(text: &[u8], at: usize) -> usize
     10 * one + worth(next)
 }
 
+// The number at the end is another than that of the forbid and need lines.
 pub fn end_fault(text: &[u8], places: Places) -> Fault
     ensures { λ r. ⌜ ((sheet : Sheet) (form : OfForm (now (text .entry)) sheet) → Sectioned (now (text .entry)) sheet form places
         → refusalIn r ≡ endFault sheet) ⌝ }
 {
+    // so that the sum can't overflow; never so in a text of the form
     if text.len() <= places.end {
         return no_fault();
     }

@@ -107,7 +107,7 @@ fn lines_fault(text: &[u8], section: Section, from: usize) -> Fault
     no_fault()
 }
 
-// Of a text with no more than 16 columns.
+// The first name at fault in a text with no more than 16 columns.
 pub fn names_fault(text: &[u8], places: Places) -> Fault
     ensures { λ r. ⌜ ((sheet : Sheet) (form : OfForm (now (text .entry)) sheet) → Sectioned (now (text .entry)) sheet form places
         → length (sheet .columns) ≤ mostColumns → refusalIn r ≡ namesFault sheet) ⌝ }

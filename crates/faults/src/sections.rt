@@ -50,6 +50,7 @@ pub fn next_line(text: &[u8], section: Section, at: usize) -> usize
     ensures is { λ r. ⌜ ((q : ℕ) (names : List Spot) → Words (now (text .entry)) (at + widthOf section) q names → r ≡ q + 1) ⌝ }
 {
     let value = at + width(section);
+    // so that the sum can't overflow; never so in a text of the form
     if text.len() < value {
         return value;
     }
@@ -85,6 +86,7 @@ pub struct Places {
     pub lines: usize,
 }
 
+// Goes over the lines of a text once.
 pub fn sections(text: &[u8]) -> Places
     ensures { λ r. ⌜ ((sheet : Sheet) (form : OfForm (now (text .entry)) sheet) → Sectioned (now (text .entry)) sheet form r) ⌝ }
 {

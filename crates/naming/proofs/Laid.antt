@@ -7,7 +7,7 @@ use Rattle.rules.specs.Names.{Spot, Names}
 use Rattle.rules.specs.Phrases.{Formula, namesIn, ors, list, mostBrackets, Stands}
 use Rattle.rules.specs.Texts.{Line, line, Lines, no-line, one-line, Sheet, OfForm}
 use Rattle.naming.specs.Words.{Words, Rows, no-row, one-row, columnsFrom}
-use Rattle.naming.proofs.Walks.{names-between, phrase-between}
+use Rattle.naming.proofs.PhraseNames.{names-between, phrase-between}
 
 -- where the columns, the forbid lines and the need lines of a text stand, as rows of names
 pub record Laid (s : List ℕ) (sheet : Sheet) : Type 0 where

@@ -18,7 +18,7 @@ pub fn stands(text: &[u8], at: usize, bytes: &[u8]) -> bool
     ensures there { λ r. ⌜ (r ≡ true → Says (now (text .entry)) at (now (bytes .entry))) ⌝ }
     ensures missing { λ r. ⌜ (r ≡ false → (byteAt (now (bytes .entry)) 0 ≡ 0 → ⊥) → Says (now (text .entry)) at (now (bytes .entry)) → ⊥) ⌝ }
 {
-    // past the end there is no byte but 0; and so the sum can't overflow
+    // so that the sum can't overflow; past the end no such bytes stand
     if text.len() <= at {
         return false;
     }

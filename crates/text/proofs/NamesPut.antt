@@ -14,7 +14,7 @@ use Rattle.rules.proofs.Lists.{holds-fails}
 use Rattle.rules.proofs.Written.{written-last}
 use Rattle.rules.proofs.Names.{run-unique}
 use Rattle.rules.proofs.Signs.{named-inside}
-use Rattle.naming.proofs.Walks.{from-more}
+use Rattle.naming.proofs.Runs.{from-more}
 
 -- a piece with the byte behind it
 piece-more : (s : List ℕ) (p i : ℕ) → p + i < length s → piece s p (p + (i + 1)) ≡ piece s p (p + i) ++ (byteAt s (p + i) ∷ [])

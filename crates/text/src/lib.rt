@@ -35,6 +35,7 @@ pub struct JobRead {
     pub names: [u8; NAMES],
 }
 
+// The answer to a text that is refused.
 fn refused(refusal: u16, place: usize) -> JobRead
     ensures { λ r. ⌜ r ≡ readOf (refusedWith refusal place) ⌝ }
 {
@@ -59,6 +60,7 @@ fn taken(text: &[u8]) -> JobRead
     let mut marks = [0u16; MOST_MARKS];
     let marked = needs::need_marks(text, places.needs, &mut marks);
     let loaded = load(table.columns, &forbidden[..count], &marks[..marked]);
+    // loaded.fit needs no look: it is proved that the numbers of a text without a fault are fit
     let job = loaded.job;
     let names = table.names;
     JobRead {
@@ -69,6 +71,7 @@ fn taken(text: &[u8]) -> JobRead
     }
 }
 
+// Reads a job text. Any bytes may come: a text with a fault is refused with the fault that comes first in 01's order.
 pub fn read(text: &[u8]) -> JobRead
     ensures { λ r. ⌜ Takes (now (text .entry)) r ⌝ }
 {

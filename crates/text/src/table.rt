@@ -44,8 +44,10 @@ fn put_name(names: &mut [u8], from: usize, text: &[u8], at: usize)
     }
 }
 
+// The columns of a text that has no more than 16.
 pub fn name_table(text: &[u8]) -> Table
-    ensures { λ r. ⌜ ((q : ℕ) (columns : List Spot) → Words (now (text .entry)) columnsFrom q columns → length columns ≤ mostColumns → Tabled columns r) ⌝ }
+    ensures { λ r. ⌜ ((q : ℕ) (columns : List Spot) → Words (now (text .entry)) columnsFrom q columns → length columns ≤ mostColumns
+        → Tabled columns r) ⌝ }
 {
     let mut names = [0u8; NAMES];
     let mut columns: usize = 0;

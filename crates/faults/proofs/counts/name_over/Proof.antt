@@ -8,7 +8,7 @@ use Rattle.rules.specs.Names.{Spot, spot}
 use Rattle.rules.specs.Sheets.{nameAfter}
 use Rattle.naming.specs.Words.{Words}
 use Rattle.rules.proofs.Signs.{named-inside}
-use Rattle.naming.proofs.Walks.{told, run-some}
+use Rattle.naming.proofs.Runs.{told, run-some}
 use Rattle.faults.proofs.Left.{NamesLeft, names-start, name-here, name-next, name-last}
 use Rattle.faults.proofs.Counted.{too-many, not-many, no-name-after, name-after, name-counted}
 use borrow.Author.Needs.{needs}

@@ -8,7 +8,7 @@ use Rattle.rules.specs.Sets.{mostColumns}
 use Rattle.rules.specs.Names.{Spot, spot}
 use Rattle.naming.specs.Words.{Words, columnsFrom}
 use Rattle.rules.proofs.Signs.{named-inside}
-use Rattle.naming.proofs.Walks.{told, run-some}
+use Rattle.naming.proofs.Runs.{told, run-some}
 use Rattle.faults.specs.Kinds.{faultBy}
 use Rattle.faults.proofs.Left.{NamesLeft, names-start, name-here, name-next, name-last, skips-nothing, name-between}
 use Rattle.faults.proofs.Tested.{RightBefore, all-right, first-faulty, first-right}

@@ -10,7 +10,7 @@ use Rattle.rules.specs.Sets.{mostColumns}
 use Rattle.rules.specs.Signs.{piece}
 use Rattle.rules.specs.Names.{Spot, Run}
 use Rattle.naming.specs.Words.{Words, columnsFrom}
-use Rattle.naming.proofs.Walks.{told}
+use Rattle.naming.proofs.Runs.{told}
 use Rattle.naming.proofs.Sought.{Sought, sought-start, sought-none, sought-here, sought-next, sought-all}
 use Rattle.naming.proofs.known.column_of.Statement.{statement}
 use Rattle.naming.proofs.known.column_of.Tie as tie

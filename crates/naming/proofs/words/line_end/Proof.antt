@@ -4,7 +4,7 @@ use Prim.Native.Nat.{ℕ, _+_, _-_, _<_, _≤_}
 use native.Mathlib.Omega.{arith}
 use lib.ListN.{length}
 use Rattle.rules.specs.Signs.{byteAt, lineEnd}
-use Rattle.naming.proofs.Walks.{from-more}
+use Rattle.naming.proofs.Runs.{from-more}
 use borrow.Author.Needs.{needs}
 use Rattle.naming.proofs.words.line_end.Statement.{statement}
 use Rattle.naming.proofs.words.line_end.Tie as tie

@@ -6,7 +6,7 @@ use native.Mathlib.Omega.{arith}
 use lib.ListN.{length}
 use Rattle.rules.specs.Signs.{byteAt, inName}
 use Rattle.rules.proofs.Signs.{named-inside}
-use Rattle.naming.proofs.Walks.{told, from-more}
+use Rattle.naming.proofs.Runs.{told, from-more}
 use borrow.Author.Needs.{needs}
 use Rattle.naming.proofs.words.name_end.Statement.{statement}
 use Rattle.naming.proofs.words.name_end.Tie as tie

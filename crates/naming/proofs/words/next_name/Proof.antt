@@ -7,7 +7,7 @@ use lib.ListN.{length}
 use borrow.Author.Tests.{not-true, not-false}
 use Rattle.rules.specs.Signs.{byteAt}
 use Rattle.naming.specs.Words.{isSign}
-use Rattle.naming.proofs.Walks.{from-more}
+use Rattle.naming.proofs.Runs.{from-more}
 use borrow.Author.Needs.{needs}
 use Rattle.naming.proofs.words.next_name.Statement.{statement}
 use Rattle.naming.proofs.words.next_name.Tie as tie

@@ -9,7 +9,8 @@ use borrow.Author.Needs.{needs}
 use Rattle.rules.specs.Signs.{byteAt, inName}
 use Rattle.rules.specs.Names.{Run}
 use Rattle.rules.proofs.Signs.{named-inside}
-use Rattle.naming.proofs.Walks.{told, Alike, alike-none, alike-more, alike-other, alike-end}
+use Rattle.naming.proofs.Runs.{told}
+use Rattle.naming.proofs.Alike.{Alike, alike-none, alike-more, alike-other, alike-end}
 use Rattle.naming.proofs.words.same.Statement.{statement}
 use Rattle.naming.proofs.words.same.Tie as tie
 use Rattle.naming.proofs.words.same.Reads as reads

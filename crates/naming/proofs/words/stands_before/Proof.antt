@@ -10,7 +10,7 @@ use borrow.Author.Needs.{needs}
 use Rattle.rules.specs.Signs.{byteAt, inName}
 use Rattle.rules.specs.Names.{Spot, spot, Run}
 use Rattle.naming.specs.Words.{Between}
-use Rattle.naming.proofs.Walks.{told, run-some}
+use Rattle.naming.proofs.Runs.{told, run-some}
 use Rattle.naming.proofs.Sought.{Among, among-start, among-none, among-here, among-next, among-end}
 use Rattle.naming.proofs.words.stands_before.Statement.{statement}
 use Rattle.naming.proofs.words.stands_before.Tie as tie

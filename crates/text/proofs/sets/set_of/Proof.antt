@@ -9,7 +9,7 @@ use Rattle.rules.specs.Names.{Spot}
 use Rattle.rules.proofs.SetBits.{bit-fits}
 use Rattle.naming.specs.Words.{Words, columnsFrom}
 use Rattle.rules.proofs.Signs.{named-inside}
-use Rattle.naming.proofs.Walks.{told, run-some}
+use Rattle.naming.proofs.Runs.{told, run-some}
 use Rattle.text.proofs.Gathering.{Gathered, gathered-none, gathered-more, gathered-end}
 use borrow.Author.Needs.{needs}
 use Rattle.text.proofs.sets.set_of.Statement.{statement}

@@ -9,7 +9,7 @@ use Rattle.rules.specs.Sets.{mostColumns}
 use Rattle.rules.specs.Names.{Spot}
 use Rattle.naming.specs.Words.{Words, columnsFrom}
 use Rattle.rules.proofs.Signs.{named-inside}
-use Rattle.naming.proofs.Walks.{told}
+use Rattle.naming.proofs.Runs.{told}
 use Rattle.text.specs.Tables.{tableBytes}
 use Rattle.text.proofs.Tabling.{Filled, filled-none, filled-more, filled-end, filled-full}
 use borrow.Author.Needs.{needs}

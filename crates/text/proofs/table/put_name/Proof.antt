@@ -4,7 +4,7 @@ use native.Mathlib.Omega.{arith}
 use borrow.Author.Needs.{needs}
 use borrow.Author.Tests.{not-true, not-false}
 use Rattle.rules.specs.Names.{mostNameBytes}
-use Rattle.naming.proofs.Walks.{told}
+use Rattle.naming.proofs.Runs.{told}
 use Rattle.text.proofs.NamesPut.{Put, put-none, put-more, put-ends, put-full}
 use Rattle.text.proofs.table.put_name.Statement.{statement}
 use Rattle.text.proofs.table.put_name.Tie as tie
