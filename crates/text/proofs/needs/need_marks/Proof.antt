@@ -1,15 +1,24 @@
 -- `text::needs::need_marks` meets its contract. Assumes nothing.
 use mathlib.Core.Path.{_≡_, refl, _∙_}
-use Prim.Native.Nat.{_-_}
+use mathlib.Core.List.{List}
+use Prim.Native.Nat.{ℕ, _+_, _-_, _<_}
 use native.Mathlib.Omega.{arith}
 use lib.ListN.{length, length-set}
 use Rattle.rules.specs.Marks.{endMark}
+use Rattle.rules.specs.Signs.{Says, needKey}
+use Rattle.rules.specs.Phrases.{ors, list}
 use Rattle.faults.specs.declared.sections.Section.the-variants.{Need}
 use Rattle.faults.proofs.Left.{key-inside}
+use Rattle.phrases.specs.Readers.{Marked}
 use Rattle.text.proofs.MarksLaid.{Laying, laying-none, laying-asks, laying-room, laying-more, laying-done}
 use borrow.Author.Needs.{needs}
 use Rattle.text.proofs.needs.need_marks.Statement.{statement}
 use Rattle.text.proofs.needs.need_marks.Tie as tie
+use Rattle.text.proofs.needs.need_marks.Reads as reads
+use Rattle.text.proofs.needs.need_marks.Lts as lts
+use Rattle.faults.proofs.sections.width.Reads as width-reads
+use Rattle.faults.proofs.sections.key_stands.Reads as key-stands-reads
+use Rattle.phrases.proofs.or_list.Reads as or-list-reads
 
 abbrev Inv-loop : tie.InvT-loop
 Inv-loop text from marks₀ before count₀ place₀ marks count place = (length marks ≡ length marks₀) × Laying text from place count marks
@@ -36,60 +45,75 @@ or-list-requires c κs =
     let here = c .before .before .key-stands .ensures .0 (c .before .if1 .taken) in
     rw (c .before .before .before .before .width .ensures) (laying-asks (c .before .before .before .loop .inv .1) here)
 
+-- where the value of a line was read
+abbrev LineRead : Type 0
+LineRead =
+    lts.After-or-list
+    (width-reads.Asked, width-reads.Learnt, key-stands-reads.Asked, key-stands-reads.Learnt, or-list-reads.Asked, or-list-reads.Learnt)
+    reads.Pre reads.Post Inv-loop μ-loop
+
+abbrev text : LineRead → List ℕ
+text c = c .before .before .before .before .before .before .before .before .args .text .now
+
+abbrev from : LineRead → ℕ
+from c = c .before .before .before .before .before .before .before .before .args .from
+
+-- what was known of the marks before
+abbrev place : LineRead → ℕ
+place c = c .before .before .before .before .loop .place
+
+abbrev count : LineRead → ℕ
+count c = c .before .before .before .before .loop .count
+
+abbrev old : LineRead → List ℕ
+old c = c .before .before .before .before .loop .marks
+
+abbrev new : LineRead → List ℕ
+new c = c .or-list .last .1 .1 .0
+
+laying : (c : LineRead) → Laying (text c) (from c) (place c) (count c) (old c)
+laying c = c .before .before .before .before .loop .inv .1
+
+here : (c : LineRead) → Says (text c) (place c) needKey
+here c = c .before .before .before .key-stands .ensures .0 (c .before .before .if1 .taken)
+
+marked : (c : LineRead) → Marked (text c) (list ors) (place c + length needKey) (count c) (old c) (c .or-list .result) (new c)
+marked c = rw (c .before .before .before .before .before .width .ensures) at (c .or-list .ensures)
+
+long : (c : LineRead) → length (new c) ≡ length (old c)
+long c = c .or-list .kept .1 .1 .0
+
+room : (c : LineRead) → (c .or-list .result .marked < length (new c)) × (place c < c .or-list .result .at) × (c .or-list .result .at < length (text c))
+room c = laying-room (laying c) (here c) (marked c) (long c)
+
 mul-marks : tie.Need-mul-marks Inv-loop μ-loop
 mul-marks c =
-    let l = c .before .before .before .before .before .before .loop in
-    let read = c .before .before .or-list in
-    let here = c .before .before .before .before .before .key-stands .ensures .0 (c .before .before .before .before .if1 .taken) in
-    let marked = rw (c .before .before .before .before .before .before .before .width .ensures) at (read .ensures) in
-    let room = laying-room (l .inv .1) here marked (read .kept .1 .1 .0) in
-    omega (arith, room, read .kept .1 .1 .0, l .inv .0, c .before .before .before .before .before .before .before .before .before .before .good)
+    let r = c .before .before in
+    let l = r .before .before .before .before in
+    omega (arith, room r, long r, l .loop .inv .0, l .before .before .before .before .good)
 
 slice-write-marks : tie.Need-slice-write-marks Inv-loop μ-loop
-slice-write-marks c =
-    let l = c .before .before .before .before .before .before .loop in
-    let read = c .before .before .or-list in
-    let here = c .before .before .before .before .before .key-stands .ensures .0 (c .before .before .before .before .if1 .taken) in
-    let marked = rw (c .before .before .before .before .before .before .before .width .ensures) at (read .ensures) in
-    let room = laying-room (l .inv .1) here marked (read .kept .1 .1 .0) in
-    room .0
+slice-write-marks c = room (c .before .before) .0
 
 add-count : tie.Need-add-count Inv-loop μ-loop
 add-count c =
-    let l = c .before .before .before .before .before .before .loop in
-    let read = c .before .before .or-list in
-    let here = c .before .before .before .before .before .key-stands .ensures .0 (c .before .before .before .before .if1 .taken) in
-    let marked = rw (c .before .before .before .before .before .before .before .width .ensures) at (read .ensures) in
-    let room = laying-room (l .inv .1) here marked (read .kept .1 .1 .0) in
-    omega (arith, room, read .kept .1 .1 .0, l .inv .0, c .before .before .before .before .before .before .before .before .before .before .good)
+    let r = c .before .before in
+    let l = r .before .before .before .before in
+    omega (arith, room r, long r, l .loop .inv .0, l .before .before .before .before .good)
 
 add-place : tie.Need-add-place Inv-loop μ-loop
 add-place c =
-    let l = c .before .before .before .before .before .before .before .loop in
-    let read = c .before .before .before .or-list in
-    let here = c .before .before .before .before .before .before .key-stands .ensures .0 (c .before .before .before .before .before .if1 .taken) in
-    let marked = rw (c .before .before .before .before .before .before .before .before .width .ensures) at (read .ensures) in
-    let room = laying-room (l .inv .1) here marked (read .kept .1 .1 .0) in
-    omega (arith, room, c .before .before .before .before .before .before .before .before .before .before .before .good)
+    let r = c .before .before .before in
+    omega (arith, room r, r .before .before .before .before .before .before .before .before .good)
 
 loop-less : tie.Need-loop-less Inv-loop μ-loop
-loop-less c =
-    let l = c .before .before .before .before .before .before .before .loop in
-    let read = c .before .before .before .or-list in
-    let here = c .before .before .before .before .before .before .key-stands .ensures .0 (c .before .before .before .before .before .if1 .taken) in
-    let marked = rw (c .before .before .before .before .before .before .before .before .width .ensures) at (read .ensures) in
-    let room = laying-room (l .inv .1) here marked (read .kept .1 .1 .0) in
-    omega (arith, room)
+loop-less c = omega (arith, room (c .before .before .before))
 
 loop-again : tie.Need-loop-again Inv-loop μ-loop
 loop-again c =
-    let l = c .before .before .before .before .before .before .before .loop in
-    let read = c .before .before .before .or-list in
-    let here = c .before .before .before .before .before .before .key-stands .ensures .0 (c .before .before .before .before .before .if1 .taken) in
-    let marked = rw (c .before .before .before .before .before .before .before .before .width .ensures) at (read .ensures) in
-    let room = laying-room (l .inv .1) here marked (read .kept .1 .1 .0) in
-    let long = read .kept .1 .1 .0 in
-    (length-set (read .last .1 .1 .0) (read .result .marked) endMark ∙ long ∙ l .inv .0, laying-more (l .inv .1) here marked long)
+    let r = c .before .before .before in
+    let last = r .or-list .result .marked in
+    (length-set (new r) last endMark ∙ long r ∙ r .before .before .before .before .loop .inv .0, laying-more (laying r) (here r) (marked r) (long r))
 
 same-length : tie.Need-same-length Inv-loop μ-loop
 same-length c = search needs
