@@ -97,7 +97,8 @@ module _ (f : Fault) (most count : ℕ) (l : Line (List Spot)) (lines : List (Li
   pub row-passed : f .number ≡ 0 → rowsOver (most - count) (l ∷ lines) ≡ rowsOver (most - (count + 1)) lines
   unfolding orElse
   row-passed z =
-      let none-over : nameAfter mostColumnMarks (l .value) ≡ none = map-eq-none-iff (refusal tooMany) (nameAfter mostColumnMarks (l .value)) .0 (nothing-refused f e z) in
+      let none-over : nameAfter mostColumnMarks (l .value) ≡ none
+      = map-eq-none-iff (refusal tooMany) (nameAfter mostColumnMarks (l .value)) .0 (nothing-refused f e z) in
       row-counted most count l lines h ∙ rw none-over
 
 -- need lines and the lines of their names

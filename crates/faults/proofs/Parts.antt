@@ -14,7 +14,8 @@ use Rattle.rules.specs.Refusals.{tooMany, endNumberOther}
 use Rattle.rules.specs.Names.{Spot}
 use Rattle.rules.specs.Phrases.{Formula, namesIn}
 use Rattle.rules.specs.Texts.{Line, line, Number, one-digit, two-digits, Sheet, OfForm}
-use Rattle.rules.specs.Sheets.{refusal, firstOver, nameAfter, lineAfter, firstNameFault, linesFault, columnFault, forbidFault, needFault, namesFault, linesIn, endFault}
+use Rattle.rules.specs.Sheets.{refusal, firstOver, nameAfter, lineAfter, firstNameFault, linesFault}
+use Rattle.rules.specs.Sheets.{columnFault, forbidFault, needFault, namesFault, linesIn, endFault}
 use Rattle.rules.proofs.Lists.{and-parts}
 use Rattle.rules.proofs.Searches.{else-none}
 use Rattle.rules.proofs.Sheets.{none-after}

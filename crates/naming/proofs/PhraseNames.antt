@@ -4,7 +4,8 @@ use mathlib.Core.Bool.{true}
 use mathlib.Core.List.{List, [], _++_, append-nil, append-assoc}
 use Prim.Native.Nat.{ℕ, _+_}
 use Rattle.rules.specs.Names.{Spot, Names, last-name, more-names}
-use Rattle.rules.specs.Phrases.{Formula, namesIn, Join, ors, ands, signOf, joinOf, Kind, item, list, rest, operand, Stands, first, last, next, name, bracketed}
+use Rattle.rules.specs.Phrases.{Formula, namesIn, Join, ors, ands, signOf, joinOf, Kind, item, list, rest, operand}
+use Rattle.rules.specs.Phrases.{Stands, first, last, next, name, bracketed}
 use Rattle.naming.specs.Words.{isSign, Between, nothing, sign, word}
 use Rattle.naming.proofs.Walks.{between-append}
 

@@ -16,7 +16,8 @@ use Rattle.rules.proofs.Lists.{none-first}
 use Rattle.rules.proofs.ListTests.{first-below}
 use Rattle.naming.specs.Words.{isSign, Skips, Between, Words}
 use Rattle.naming.proofs.Runs.{name-no-sign}
-use Rattle.naming.proofs.Walks.{between-forward, between-none, skips-between, skips-stops, at-name, some-name, at-end, words-some, Ahead, ahead-start, ahead-turn, ahead-end}
+use Rattle.naming.proofs.Walks.{between-forward, between-none, skips-between, skips-stops, at-name, some-name, at-end, words-some}
+use Rattle.naming.proofs.Walks.{Ahead, ahead-start, ahead-turn, ahead-end}
 
 -- ---- whether it stands among them
 

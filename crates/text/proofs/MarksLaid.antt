@@ -92,7 +92,8 @@ module _ {s : List ℕ} {from place count : ℕ} {marks : List ℕ} (l : Laying 
     fits-here : count + marksLong (here .says) + 1 ≤ length marks
     unfolding marksOf
     fits-here =
-        let parts : marksOf [] (l .lines) ≡ marksOf [] (l .done) ++ marksOf [] (l .left) = ap (marksOf []) (l .whole) ∙ marks-append [] (l .done) (l .left) in
+        let parts : marksOf [] (l .lines) ≡ marksOf [] (l .done) ++ marksOf [] (l .left)
+        = ap (marksOf []) (l .whole) ∙ marks-append [] (l .done) (l .left) in
         let first : marksOf [] (l .left) ≡ marksIn [] (here .says) ++ (endMark ∷ marksOf [] (here .later)) = ap (marksOf []) (here .same) in
         omega (
           arith,
@@ -148,7 +149,8 @@ module _ {s : List ℕ} {from place count : ℕ} {marks : List ℕ} (l : Laying 
             fits = omega (arith, l .fits, long, length-set new (r .marked) endMark);
             laid = λ q columns w few.
                 take-set new (r .marked) endMark (laying-room .0)
-                ∙ ap (λ (m : List ℕ). m ++ (endMark ∷ [])) (wrote .marks q columns w few ∙ ap (λ (m : List ℕ). m ++ marksIn columns (here .says)) (l .laid q columns w few))
+                ∙ ap (λ (m : List ℕ). m ++ (endMark ∷ []))
+                (wrote .marks q columns w few ∙ ap (λ (m : List ℕ). m ++ marksIn columns (here .says)) (l .laid q columns w few))
                 ∙ append-assoc (marksOf columns (l .done)) (marksIn columns (here .says)) (endMark ∷ [])
                 ∙ sym (behind columns);
           }

@@ -14,7 +14,8 @@ length-rows : (names : List (List ℕ)) → length (nameRows names) ≡ mostName
 unfolding nameRows
 length-rows [] = refl
 length-rows (name ∷ names) =
-    let row : length (written name (replicate mostNameBytes 0)) ≡ mostNameBytes = length-written name (replicate mostNameBytes 0) ∙ length-replicate {A = ℕ} mostNameBytes 0 in
+    let row : length (written name (replicate mostNameBytes 0)) ≡ mostNameBytes
+    = length-written name (replicate mostNameBytes 0) ∙ length-replicate {A = ℕ} mostNameBytes 0 in
     length-append (written name (replicate mostNameBytes 0)) (nameRows names) ∙ omega (arith, row, length-rows names)
 
 rows-last : (names : List (List ℕ)) (name : List ℕ) → nameRows (names ++ (name ∷ [])) ≡ nameRows names ++ written name (replicate mostNameBytes 0)
@@ -31,9 +32,11 @@ drop-equal (suc n) (suc m) d = let e : suc m - suc n ≡ m - n = omega arith in 
 
 -- a table with a name more: the name is written behind the rows that stand
 pub table-more : (names : List (List ℕ)) (name : List ℕ) → length names < mostColumns → length name ≤ mostNameBytes
-    → take (mostNameBytes * length names) (nameTable names) ++ written name (drop (mostNameBytes * length names) (nameTable names)) ≡ nameTable (names ++ (name ∷ []))
+    → take (mostNameBytes * length names) (nameTable names) ++ written name (drop (mostNameBytes * length names) (nameTable names))
+    ≡ nameTable (names ++ (name ∷ []))
 unfolding nameTable
-table-more names name few short = rw (← many) (go (replicate tableBytes 0) (length-replicate {A = ℕ} tableBytes 0) (drop-equal (length (nameRows names)) tableBytes 0))
+table-more names name few short =
+    rw (← many) (go (replicate tableBytes 0) (length-replicate {A = ℕ} tableBytes 0) (drop-equal (length (nameRows names)) tableBytes 0))
   where
     many : length (nameRows names) ≡ mostNameBytes * length names
     many = length-rows names

@@ -61,7 +61,8 @@ module _ (s : List ℕ) (at from : ℕ) (old : List ℕ) where
 
   module _ (i : ℕ) (new : List ℕ) (put : Put s at from old i new) where
     -- one byte more
-    pub put-more : i < mostNameBytes → from + mostNameBytes ≤ length old → inName (byteAt s (at + i)) ≡ true → Put s at from old (i + 1) (set new (from + i) (byteAt s (at + i)))
+    pub put-more : i < mostNameBytes → from + mostNameBytes ≤ length old → inName (byteAt s (at + i)) ≡ true
+        → Put s at from old (i + 1) (set new (from + i) (byteAt s (at + i)))
     put-more h room e =
         let within : at + i < length s = named-inside s (at + i) e in
         let start : length (take from old) ≡ from = length-take-le from old (omega arith) in

@@ -37,22 +37,27 @@ refused-requires-3 c κs = search needs
 
 returns-3 : tie.Need-returns-3
 returns-3 c =
-    let whole = rw (c .before .before .before .before .enum-told .given .1) at (c .before .before .before .before .before .before .form .ensures) in
     let fault = c .before .before .before .first-fault in
-    fault-takes (whole .0) (fault .result) (omega (arith, c .before .before .before .before .before .before .before .if1 .left)) (whole .1) (fault .ensures (whole .0) (whole .1)) (c .before .if2 .taken) (c .refused3 .ensures)
+    let formed = c .before .before .before .before in
+    let whole = rw (formed .enum-told .given .1) at (formed .before .before .form .ensures) in
+    fault-takes (whole .0) (fault .result) (omega (arith, formed .before .before .before .if1 .left)) (whole .1) (fault .ensures (whole .0) (whole .1))
+    (c .before .if2 .taken) (c .refused3 .ensures)
 
 taken-requires : tie.Need-taken-requires
 taken-requires c κs =
-    let whole = rw (c .before .before .before .enum-told .given .1) at (c .before .before .before .before .before .form .ensures) in
+    let formed = c .before .before .before in
+    let whole = rw (formed .enum-told .given .1) at (formed .before .before .form .ensures) in
     let fault = c .before .before .first-fault in
     (whole .0, whole .1, nothing-refused (fault .result) (fault .ensures (whole .0) (whole .1)) (c .if2 .left))
 
 returns-4 : tie.Need-returns-4
 returns-4 c =
-    let whole = rw (c .before .before .before .before .enum-told .given .1) at (c .before .before .before .before .before .before .form .ensures) in
     let fault = c .before .before .before .first-fault in
+    let formed = c .before .before .before .before in
+    let whole = rw (formed .enum-told .given .1) at (formed .before .before .form .ensures) in
     let right = nothing-refused (fault .result) (fault .ensures (whole .0) (whole .1)) (c .before .if2 .left) in
-    right-takes (whole .0) (omega (arith, c .before .before .before .before .before .before .before .if1 .left)) (whole .1) (c .taken .ensures (whole .0) (whole .1) right)
+    right-takes (whole .0) (omega (arith, formed .before .before .before .if1 .left)) (whole .1)
+    (c .taken .ensures (whole .0) (whole .1) right)
 
 pub read-spec : {M : Type 1} → statement M
 read-spec =

@@ -15,7 +15,7 @@ returns c =
     let n = c .before .before in
     λ sheet form at few.
     refused (n .line-fault .result)
-    (n .line-fault .ensures (form .columnsTo) (form .columnsTo) (sheet .columns) (sheet .columns) (laid form .columns) few (laid form .columns)) _ (c .if1 .taken)
+    (n .line-fault .ensures _ _ (sheet .columns) (sheet .columns) (laid form .columns) few (laid form .columns)) _ (c .if1 .taken)
     ∙ sym (names-parts sheet)
 
 lines-fault-requires : tie.Need-lines-fault-requires
@@ -27,7 +27,7 @@ returns-2 c =
     let n = f .before .before .before in
     λ sheet form at few.
     second-refused (n .line-fault .result) (f .lines-fault .result) _
-    (n .line-fault .ensures (form .columnsTo) (form .columnsTo) (sheet .columns) (sheet .columns) (laid form .columns) few (laid form .columns))
+    (n .line-fault .ensures _ _ (sheet .columns) (sheet .columns) (laid form .columns) few (laid form .columns))
     (f .before .if1 .left)
     (f .lines-fault .ensures (form .columnsTo) (form .needsFrom) (sheet .columns) _ (laid form .columns) few (forbid-rows form at)) (c .if2 .taken)
     ∙ sym (names-parts sheet)
@@ -41,7 +41,7 @@ returns-3 c =
     let n = f .before .before .before in
     λ sheet form at few.
     third-refused (n .line-fault .result) (f .lines-fault .result) (c .lines-fault2 .result)
-    (n .line-fault .ensures (form .columnsTo) (form .columnsTo) (sheet .columns) (sheet .columns) (laid form .columns) few (laid form .columns))
+    (n .line-fault .ensures _ _ (sheet .columns) (sheet .columns) (laid form .columns) few (laid form .columns))
     (f .before .if1 .left)
     (f .lines-fault .ensures (form .columnsTo) (form .needsFrom) (sheet .columns) _ (laid form .columns) few (forbid-rows form at))
     (c .before .if2 .left)

@@ -46,7 +46,8 @@ returns c =
 add-set-of : tie.Need-add-set-of Inv-loop μ-loop
 add-set-of c =
     let here = c .before .key-stands .ensures .0 (not-false _ (c .if1 .left)) in
-    omega (arith, key-inside Forbid here, c .before .before .before .before .width .ensures, c .before .before .before .before .before .before .before .good)
+    let w = c .before .before .before .before in
+    omega (arith, key-inside Forbid here, w .width .ensures, w .before .before .before .good)
 
 set-of-requires : tie.Need-set-of-requires Inv-loop μ-loop
 set-of-requires c κs = search needs
@@ -72,15 +73,17 @@ loop-less c =
 
 loop-again : tie.Need-loop-again Inv-loop μ-loop
 loop-again c =
-    let l = c .before .before .before .before .before .loop in
-    let room = c .before .before .before .before .loop-test .taken in
-    let here = c .before .before .before .key-stands .ensures .0 (not-false _ (c .before .before .if1 .left)) in
-    let bits = c .before .set-of .result in
-    let long = length-set (l .sets) (l .count) bits in (
+    let t = c .before .before .before in
+    let l = t .before .before .loop in
+    let room = t .before .loop-test .taken in
+    let here = t .key-stands .ensures .0 (not-false _ (c .before .before .if1 .left)) in
+    let set = c .before .set-of in
+    let long = length-set (l .sets) (l .count) (set .result) in (
       omega (arith, room, long),
       long ∙ l .inv .1,
       λ q to columns rows known few are.
-          sets-more (l .inv .2 q to columns rows known few are) here room (c .next-line .ensures .1) (λ r names w. c .before .set-of .ensures q r columns names known few (rw (c .before .before .before .before .before .before .width .ensures) w)),
+          sets-more (l .inv .2 q to columns rows known few are) here room (c .next-line .ensures .1)
+          (λ r names w. set .ensures q r columns names known few (rw (t .before .before .before .width .ensures) w)),
     )
 
 same-length-2 : tie.Need-same-length-2 Inv-loop μ-loop

@@ -52,15 +52,17 @@ next-name-requires-2 c κs = search needs
 
 loop-less : tie.Need-loop-less Inv-loop μ-loop
 loop-less c =
-    let l = c .before .before .before .before .before .before .before .loop in
-    let here = told (c .before .before .before .before .before .before .byte .ensures) (c .before .before .before .before .before .in-name .ensures) (c .before .before .before .before .if1 .taken) in
-    let inside = named-inside (c .before .before .before .before .before .before .before .before .before .before .args .text .now) (l .place) here in
+    let t = c .before .before .before .before in
+    let l = t .before .before .before in
+    let here = told (t .before .before .byte .ensures) (t .before .in-name .ensures) (t .if1 .taken) in
+    let inside = named-inside (l .before .before .before .args .text .now) (l .loop .place) here in
     omega (arith, inside, run-some (c .before .name-end .ensures) here, c .next-name2 .ensures .forward)
 
 loop-again : tie.Need-loop-again Inv-loop μ-loop
 loop-again c =
-    let l = c .before .before .before .before .before .before .before .loop in
-    let here = told (c .before .before .before .before .before .before .byte .ensures) (c .before .before .before .before .before .in-name .ensures) (c .before .before .before .before .if1 .taken) in
+    let t = c .before .before .before .before in
+    let l = t .before .before .before .loop in
+    let here = told (t .before .before .byte .ensures) (t .before .in-name .ensures) (t .if1 .taken) in
     let ends = c .before .name-end .ensures in
     let column = c .before .before .before .column-in in
     let grown : c .before .before .union .result .bits ≡ union (l .set .bits) (2 ^ column .result)

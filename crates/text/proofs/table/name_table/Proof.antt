@@ -18,7 +18,8 @@ use Rattle.text.proofs.table.name_table.Tie as tie
 
 abbrev Inv-loop : tie.InvT-loop
 Inv-loop text names₀ columns₀ place₀ names columns place =
-    (columns ≤ mostColumns) × (length names ≡ tableBytes) × ((q : ℕ) (known : List Spot) → Words text columnsFrom q known → Filled text q known place columns names)
+    (columns ≤ mostColumns) × (length names ≡ tableBytes)
+    × ((q : ℕ) (known : List Spot) → Words text columnsFrom q known → Filled text q known place columns names)
 
 abbrev μ-loop : tie.MeasureT-loop
 μ-loop text names₀ columns₀ place₀ names columns place = mostColumns - columns
@@ -52,10 +53,11 @@ mul-put-name c = search needs
 
 put-name-requires : tie.Need-put-name-requires Inv-loop μ-loop
 put-name-requires c κs =
-    let l = c .before .before .before .before .before .loop in
     let b = c .before .before .before in
+    let l = b .before .before in
     let here = told (b .byte .ensures) (c .before .before .in-name .ensures) (not-false _ (c .before .if1 .left)) in
-    (omega (arith, l .inv .1, c .before .before .before .before .loop-test .taken), omega (arith, named-inside (c .before .before .before .before .before .before .before .before .args .text .now) (l .place) here))
+    let inside = named-inside (l .before .before .before .args .text .now) (l .loop .place) here in
+    (omega (arith, l .loop .inv .1, b .before .loop-test .taken), omega (arith, inside))
 
 add-columns : tie.Need-add-columns Inv-loop μ-loop
 add-columns c = search needs
@@ -71,13 +73,17 @@ loop-less c = search needs
 
 loop-again : tie.Need-loop-again Inv-loop μ-loop
 loop-again c =
-    let b = c .before .before .before .before .before .before .before in
+    let t = c .before .before .before .before .before in
+    let b = t .before .before in
     let l = b .before .before .loop in
     let few = b .before .loop-test .taken in
-    let here = told (b .byte .ensures) (c .before .before .before .before .before .before .in-name .ensures) (not-false _ (c .before .before .before .before .before .if1 .left)) in
+    let here = told (b .byte .ensures) (t .before .in-name .ensures) (not-false _ (t .if1 .left)) in
     let ends = c .before .name-end .ensures in
-    let put = c .before .before .before .put-name in
-    (omega (arith, few), put .kept .0 ∙ l .inv .1, λ q known w. filled-more (l .inv .2 q known w) few here ends (c .next-name2 .ensures) (put .ensures _ ends))
+    let put = c .before .before .before .put-name in (
+      omega (arith, few),
+      put .kept .0 ∙ l .inv .1,
+      λ q known w. filled-more (l .inv .2 q known w) few here ends (c .next-name2 .ensures) (put .ensures _ ends),
+    )
 
 returns-2 : tie.Need-returns-2 Inv-loop μ-loop
 returns-2 c =
