@@ -11,7 +11,7 @@ use borrow.Author.Tests.{ltb-true, eqb-true, eqb-false}
 use Rattle.rules.specs.Signs.{byteAt, letter, inName, lineEnd, bracketOpen, bracketClose}
 use Rattle.rules.specs.Names.{Name as NameAt, Names, spot, last-name, more-names, mostNameBytes}
 use Rattle.rules.proofs.Signs.{letter-named}
-use Rattle.naming.proofs.Walks.{from-more}
+use Rattle.naming.proofs.Runs.{from-more}
 use Rattle.form.specs.declared.machine.State.{State}
 use Rattle.form.specs.declared.machine.State.the-variants.{Begin, Name, Done, Wrong}
 use Rattle.form.specs.Machine.{needSection, joining, behindItem, step, stateAt}

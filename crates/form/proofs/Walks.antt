@@ -16,8 +16,7 @@ use Rattle.rules.specs.Phrases.{Kind, item, list, rest, Join, ors, ands, operan
 use Rattle.rules.specs.Phrases.{Stands, first, last, next, name, bracketed}
 use Rattle.rules.specs.Texts.{Line, Lines, no-line, one-line, Number as NumberAt, one-digit, two-digits, HasForm}
 use Rattle.rules.proofs.Signs.{inside, named-inside, says-first}
-use Rattle.rules.proofs.Names.{name-some}
-use Rattle.naming.proofs.Walks.{name-begins}
+use Rattle.rules.proofs.Names.{name-begins, name-some}
 use Rattle.form.specs.declared.machine.State.{State}
 use Rattle.form.specs.declared.machine.State.the-variants.{Key, Begin, Name, Closed, Number, Done, Wrong}
 use Rattle.form.specs.Machine.{columnsSection, forbidSection, needSection, endSection, noDigit, digitZero, otherDigit, twoDigits, onDigit}

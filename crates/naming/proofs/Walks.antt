@@ -12,16 +12,11 @@ use borrow.Author.Tests.{ltb-true, ltb-false}
 use Rattle.rules.specs.Signs.{byteAt, inName, lineEnd}
 use Rattle.rules.specs.Names.{Spot, spot, Run, Name}
 use Rattle.rules.proofs.Lists.{holds-fails}
-use Rattle.rules.proofs.Signs.{letter-named}
-use Rattle.rules.proofs.Names.{run-unique, name-some}
+use Rattle.rules.proofs.Names.{run-unique, name-some, name-begins}
 use Rattle.naming.specs.Words.{isSign, Skips, Ends, Between, nothing, sign, word, Words}
 use Rattle.naming.proofs.Runs.{no-sign-inside, name-no-sign, end-no-sign, end-no-name}
 
 -- ---- walks over names
-
--- a name's first byte is in a name
-name-begins : {s : List ℕ} {p q : ℕ} → Name s p q → inName (byteAt s p) ≡ true
-name-begins {s} {p} n = letter-named (byteAt s p) (n .begins)
 
 -- a walk goes forward
 pub between-forward : {s : List ℕ} {p q : ℕ} {xs : List Spot} → Between s p q xs → p ≤ q

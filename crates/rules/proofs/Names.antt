@@ -1,5 +1,6 @@
 -- Names stand in a text in one way. Assumes nothing.
 use mathlib.Core.Path.{_≡_, ap, ap₂, subst⁻¹, _∙_}
+use mathlib.Core.Bool.{true}
 use mathlib.Core.List.{List, [], _∷_}
 use Prim.Native.Nat.{ℕ, _+_, _<_}
 use native.Mathlib.Decide.{decLt}
@@ -18,6 +19,10 @@ run-unique {s} {p} {q} {q′} a b = go (decLt q q′) (decLt q′ q)
     go (no n) (yes l) = holds-fails (inName (byteAt s q′)) (a .goesOn q′ (b .forward) l) (b .ends)
     go (no n) (no m) = omega arith
 
+-- the first byte of a name is one of names
+pub name-begins : {s : List ℕ} {p q : ℕ} → Name s p q → inName (byteAt s p) ≡ true
+name-begins {s} {p} n = letter-named (byteAt s p) (n .begins)
+
 -- a name is not empty
 pub name-some : {s : List ℕ} {p q : ℕ} → Name s p q → p < q
 name-some {s} {p} {q} a = go (decLt p q)
@@ -27,7 +32,7 @@ name-some {s} {p} {q} a = go (decLt p q)
     go (no n) =
         let f = a .run .forward in
         let e : p ≡ q = omega arith in
-        holds-fails (inName (byteAt s p)) (letter-named (byteAt s p) (a .begins)) (ap (λ (k : ℕ). inName (byteAt s k)) e ∙ a .run .ends)
+        holds-fails (inName (byteAt s p)) (name-begins a) (ap (λ (k : ℕ). inName (byteAt s k)) e ∙ a .run .ends)
 
 -- names joined by a sign stand from one place to one place only, and are the same names
 pub names-unique : {s : List ℕ} {sign p q q′ : ℕ} {xs ys : List Spot} → Names s sign p q xs → Names s sign p q′ ys → (q ≡ q′) × (xs ≡ ys)

@@ -98,7 +98,11 @@ fn alike(old: u8, drawn: u64) -> u8 {
 
 // The byte that is put in or stands for another.
 fn new_sign(old: u8, kind: u64, drawn: u64) -> u8 {
-    if kind == 3 { alike(old, drawn) } else { sign(drawn) }
+    if kind == 3 {
+        alike(old, drawn)
+    } else {
+        sign(drawn)
+    }
 }
 
 // Writes a text with one byte left out, put in, or changed to any or to one of its sort, and says how many bytes it has.
