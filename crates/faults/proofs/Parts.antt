@@ -7,10 +7,10 @@ use Prim.Native.Nat.{ℕ, _+_, _-_, _*_, _<_, _≤_}
 use native.Mathlib.Omega.{arith}
 use lib.ListN.{length, length-map}
 use borrow.Author.Tests.{eq-eqb, ne-eqb, leb-true}
-use Rattle.rules.specs.Numbers.{mostForbidden, mostNeeds}
-use Rattle.rules.specs.Signs.{byteAt, digit, lineEnd, forbidKey, needKey, endKey}
 use Rattle.rules.specs.Sets.{mostColumns}
+use Rattle.rules.specs.Numbers.{mostForbidden, mostNeeds}
 use Rattle.rules.specs.Refusals.{tooMany, endNumberOther}
+use Rattle.rules.specs.Signs.{byteAt, digit, lineEnd, forbidKey, needKey, endKey}
 use Rattle.rules.specs.Names.{Spot}
 use Rattle.rules.specs.Phrases.{Formula, namesIn}
 use Rattle.rules.specs.Texts.{Line, line, Number, one-digit, two-digits, Sheet, OfForm}
@@ -20,7 +20,7 @@ use Rattle.rules.proofs.Lists.{and-parts}
 use Rattle.rules.proofs.Searches.{else-none}
 use Rattle.rules.proofs.Sheets.{none-after}
 use Rattle.naming.specs.Words.{Words, Rows, columnsFrom}
-use Rattle.naming.proofs.Laid.{laid, laid-forbids, laid-needs}
+use Rattle.naming.proofs.Laid.{laid-columns, laid-forbids, laid-needs}
 use Rattle.faults.specs.Kinds.{rowsOver, Walks, Sectioned}
 use Rattle.faults.specs.declared.sections.Walked.{Walked}
 use Rattle.faults.specs.declared.sections.Places.{Places}
@@ -60,7 +60,7 @@ module _ {s : List ℕ} {sheet : Sheet} (form : OfForm s sheet) where
       → ((q : ℕ) (rows : List (Line (List Spot))) → Rows s needKey (b .to) q rows → Walks q rows d)
       → Sectioned s sheet form (record { forbids = from; needs = b .to; end = d .to; lines = b .lines + d .lines })
   sectioned columns forbids needs =
-      let first = columns (form .columnsTo) (sheet .columns) (laid form .columns) in
+      let first = columns (form .columnsTo) (sheet .columns) (laid-columns form) in
       let second = forbids (form .needsFrom) (sheet .forbids) (rw first (laid-forbids form)) in
       let third = needs (form .endFrom) (map (λ l. line (l .place) (namesIn (l .value))) (sheet .needs)) (rw (second .to) (laid-needs form)) in
       record {

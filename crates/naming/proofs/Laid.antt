@@ -9,15 +9,6 @@ use Rattle.rules.specs.Texts.{Line, line, Lines, no-line, one-line, Sheet, OfFo
 use Rattle.naming.specs.Words.{Words, Rows, no-row, one-row, columnsFrom}
 use Rattle.naming.proofs.PhraseNames.{names-between, phrase-between}
 
--- where the columns, the forbid lines and the need lines of a text stand, as rows of names
-pub record Laid (s : List ℕ) (sheet : Sheet) : Type 0 where
-  pub columnsTo : ℕ
-  pub needsFrom : ℕ
-  pub endFrom : ℕ
-  pub columns : Words s columnsFrom columnsTo (sheet .columns)
-  pub forbids : Rows s forbidKey (columnsTo + 1) needsFrom (sheet .forbids)
-  pub needs : Rows s needKey needsFrom endFrom (map (λ l. line (l .place) (namesIn (l .value))) (sheet .needs))
-
 -- lines with a key are rows of the names that their values come to
 lines-rows : {A : Type 0} {s key : List ℕ} {Value : ℕ → ℕ → A → Type 0} (names : A → List Spot)
     → ((p q : ℕ) (a : A) → Value p q a → byteAt s q ≡ lineEnd → Words s p q (names a))
@@ -26,29 +17,23 @@ lines-rows : {A : Type 0} {s key : List ℕ} {Value : ℕ → ℕ → A → Type
 lines-rows names words (no-line n) = no-row n
 lines-rows names words (one-line {r} {a} says value e lines) = one-row says (words _ r a value e) (lines-rows names words lines)
 
+-- names joined by a sign go to the line's end
 names-words : (s : List ℕ) (p q : ℕ) (xs : List Spot) → Names s plus p q xs → byteAt s q ≡ lineEnd → Words s p q xs
 names-words s p q xs names e = record { between = names-between names refl; ends = e }
 
+-- so do the names of a phrase
 phrase-words : (s : List ℕ) (p q : ℕ) (v : Formula) → Stands s (list ors) mostBrackets p q v → byteAt s q ≡ lineEnd → Words s p q (namesIn v)
 phrase-words s p q v stands e = record { between = phrase-between stands; ends = e }
 
 module _ {s : List ℕ} {sheet : Sheet} (form : OfForm s sheet) where
-  -- its forbid lines are rows of names
+  -- the names of the columns stand behind their key
+  pub laid-columns : Words s columnsFrom (form .columnsTo) (sheet .columns)
+  laid-columns = record { between = names-between (form .columns) refl; ends = form .columnsEnd }
+
+  -- the forbid lines are rows of names
   pub laid-forbids : Rows s forbidKey (form .columnsTo + 1) (form .needsFrom) (sheet .forbids)
   laid-forbids = rw (map-id (sheet .forbids)) at (lines-rows (λ xs. xs) (names-words s) (form .forbids))
 
-  -- its need lines are rows of names
+  -- so are the need lines
   pub laid-needs : Rows s needKey (form .needsFrom) (form .endFrom) (map (λ l. line (l .place) (namesIn (l .value))) (sheet .needs))
   laid-needs = lines-rows namesIn (phrase-words s) (form .needs)
-
-  -- a text of the form is laid out so, its parts where the form has them
-  abbrev pub laid : Laid s sheet
-  laid =
-      record {
-        columnsTo = form .columnsTo;
-        needsFrom = form .needsFrom;
-        endFrom = form .endFrom;
-        columns = record { between = names-between (form .columns) refl; ends = form .columnsEnd };
-        forbids = laid-forbids;
-        needs = laid-needs;
-      }

@@ -21,7 +21,7 @@ use Rattle.rules.proofs.Readings.{reading-taken, reading-refused}
 use Rattle.job.specs.declared.Loaded.{Loaded}
 use Rattle.job.specs.Records.{jobWith, loaded}
 use Rattle.naming.specs.Words.{Words, Rows, columnsFrom}
-use Rattle.naming.proofs.Laid.{laid}
+use Rattle.naming.proofs.Laid.{laid-columns}
 use Rattle.faults.specs.declared.fault.Fault.{Fault}
 use Rattle.faults.specs.declared.sections.Places.{Places}
 use Rattle.faults.specs.Refused.{refusalIn}
@@ -40,7 +40,7 @@ loaded-job q e = rw e
 
 module _ {s : List ℕ} {sheet : Sheet} (form : OfForm s sheet) (right : sheetFault sheet ≡ none) where
   words : Words s columnsFrom (form .columnsTo) (sheet .columns)
-  words = laid form .columns
+  words = laid-columns form
 
   few : length (sheet .columns) ≤ mostColumns
   few = counts s sheet form right .fewColumns

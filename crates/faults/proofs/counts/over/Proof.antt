@@ -1,6 +1,6 @@
 -- `faults::counts::over` meets its contract. Assumes nothing.
 use mathlib.Core.Path.{sym, _∙_}
-use Rattle.naming.proofs.Laid.{laid}
+use Rattle.naming.proofs.Laid.{laid-columns}
 use Rattle.faults.proofs.Refusing.{refused, second-refused, third-refused}
 use Rattle.faults.proofs.Parts.{forbid-rows, need-rows, over-parts}
 use borrow.Author.Needs.{needs}
@@ -17,7 +17,7 @@ returns : tie.Need-returns
 returns c =
     let n = c .before .before in
     λ sheet form at.
-    refused (n .name-over .result) (n .name-over .ensures (form .columnsTo) (sheet .columns) (laid form .columns)) _
+    refused (n .name-over .result) (n .name-over .ensures (form .columnsTo) (sheet .columns) (laid-columns form)) _
     (c .if1 .taken)
     ∙ sym (over-parts sheet)
 
@@ -30,7 +30,7 @@ returns-2 c =
     let n = f .before .before .before in
     λ sheet form at.
     second-refused (n .name-over .result) (f .forbid-over .result) _
-    (n .name-over .ensures (form .columnsTo) (sheet .columns) (laid form .columns)) (f .before .if1 .left)
+    (n .name-over .ensures (form .columnsTo) (sheet .columns) (laid-columns form)) (f .before .if1 .left)
     (f .forbid-over .ensures (form .needsFrom) (sheet .forbids) (forbid-rows form at)) (c .if2 .taken)
     ∙ sym (over-parts sheet)
 
@@ -43,7 +43,7 @@ returns-3 c =
     let n = f .before .before .before in
     λ sheet form at.
     third-refused (n .name-over .result) (f .forbid-over .result) (c .need-over .result)
-    (n .name-over .ensures (form .columnsTo) (sheet .columns) (laid form .columns)) (f .before .if1 .left)
+    (n .name-over .ensures (form .columnsTo) (sheet .columns) (laid-columns form)) (f .before .if1 .left)
     (f .forbid-over .ensures (form .needsFrom) (sheet .forbids) (forbid-rows form at)) (c .before .if2 .left)
     (c .need-over .ensures (form .endFrom) _ (need-rows form at))
     ∙ sym (over-parts sheet)

@@ -1,6 +1,6 @@
 -- `faults::names::names_fault` meets its contract. Assumes nothing.
 use mathlib.Core.Path.{sym, _∙_}
-use Rattle.naming.proofs.Laid.{laid}
+use Rattle.naming.proofs.Laid.{laid-columns}
 use Rattle.faults.proofs.Refusing.{refused, second-refused, third-refused}
 use Rattle.faults.proofs.Parts.{forbid-rows, need-rows, names-parts}
 use borrow.Author.Needs.{needs}
@@ -15,7 +15,7 @@ returns c =
     let n = c .before .before in
     λ sheet form at few.
     refused (n .line-fault .result)
-    (n .line-fault .ensures _ _ (sheet .columns) (sheet .columns) (laid form .columns) few (laid form .columns)) _ (c .if1 .taken)
+    (n .line-fault .ensures _ _ (sheet .columns) (sheet .columns) (laid-columns form) few (laid-columns form)) _ (c .if1 .taken)
     ∙ sym (names-parts sheet)
 
 lines-fault-requires : tie.Need-lines-fault-requires
@@ -27,9 +27,9 @@ returns-2 c =
     let n = f .before .before .before in
     λ sheet form at few.
     second-refused (n .line-fault .result) (f .lines-fault .result) _
-    (n .line-fault .ensures _ _ (sheet .columns) (sheet .columns) (laid form .columns) few (laid form .columns))
+    (n .line-fault .ensures _ _ (sheet .columns) (sheet .columns) (laid-columns form) few (laid-columns form))
     (f .before .if1 .left)
-    (f .lines-fault .ensures (form .columnsTo) (form .needsFrom) (sheet .columns) _ (laid form .columns) few (forbid-rows form at)) (c .if2 .taken)
+    (f .lines-fault .ensures (form .columnsTo) (form .needsFrom) (sheet .columns) _ (laid-columns form) few (forbid-rows form at)) (c .if2 .taken)
     ∙ sym (names-parts sheet)
 
 lines-fault-requires-2 : tie.Need-lines-fault-requires-2
@@ -41,11 +41,11 @@ returns-3 c =
     let n = f .before .before .before in
     λ sheet form at few.
     third-refused (n .line-fault .result) (f .lines-fault .result) (c .lines-fault2 .result)
-    (n .line-fault .ensures _ _ (sheet .columns) (sheet .columns) (laid form .columns) few (laid form .columns))
+    (n .line-fault .ensures _ _ (sheet .columns) (sheet .columns) (laid-columns form) few (laid-columns form))
     (f .before .if1 .left)
-    (f .lines-fault .ensures (form .columnsTo) (form .needsFrom) (sheet .columns) _ (laid form .columns) few (forbid-rows form at))
+    (f .lines-fault .ensures (form .columnsTo) (form .needsFrom) (sheet .columns) _ (laid-columns form) few (forbid-rows form at))
     (c .before .if2 .left)
-    (c .lines-fault2 .ensures (form .columnsTo) (form .endFrom) (sheet .columns) _ (laid form .columns) few (need-rows form at))
+    (c .lines-fault2 .ensures (form .columnsTo) (form .endFrom) (sheet .columns) _ (laid-columns form) few (need-rows form at))
     ∙ sym (names-parts sheet)
 
 pub names-fault-spec : {M : Type 1} → statement M
