@@ -1,12 +1,12 @@
 -- The names of a text's columns: they differ, and each is 1 to 12 letters and digits. Assumes nothing.
 use mathlib.Core.Path.{_≡_, refl, sym, ap, _∙_}
 use mathlib.Core.Bool.{Bool, true, false, cond, _&&_, false≢true}
-use mathlib.Core.List.{List, [], _∷_, map}
+use mathlib.Core.List.{List, [], map}
 use mathlib.Core.Option.{none, some, Option·none-ne-some}
 use Prim.Native.Nat.{ℕ, zero, suc, _+_, _-_, _<_}
 use native.Mathlib.Omega.{arith}
 use lib.Dec.{ltb, leb}
-use lib.ListN.{length, getD, take, drop, length-drop}
+use lib.ListN.{length, getD, take, drop, length-drop, List·getD-map}
 use lib.Seq.{getD-take, getD-drop, length-take-le}
 use borrow.Author.Tests.{lt-ltb, le-leb}
 use Rattle.rules.specs.Lists.{every}
@@ -42,17 +42,12 @@ columns-differ sheet e i j d l h =
     ap (λ (x : Spot). sameName (x .name) (getD names j d .name)) (sym (getD-take j names i d l))
     ∙ not-any-in (λ c. sameName (c .name) (getD names j d .name)) new (getD-in (take j names) i d (omega arith))
 
-getD-map : {A B : Type 0} (f : A → B) (xs : List A) (i : ℕ) (d : A) → getD (map f xs) i (f d) ≡ f (getD xs i d)
-getD-map f [] i d = refl
-getD-map f (x ∷ xs) zero d = refl
-getD-map f (x ∷ xs) (suc i) d = getD-map f xs i d
-
 -- two names of its job are different
 pub names-differ : (sheet : Sheet) → sheetFault sheet ≡ none → (i j : ℕ) → i < j → j < length (sheet .columns)
     → sameName (getD (namesOf sheet) i []) (getD (namesOf sheet) j []) ≡ false
 unfolding namesOf
 names-differ sheet e i j l h =
-    rw (getD-map (λ x. x .name) (sheet .columns) i nowhere, getD-map (λ x. x .name) (sheet .columns) j nowhere)
+    rw (List·getD-map (λ x. x .name) (sheet .columns) i nowhere, List·getD-map (λ x. x .name) (sheet .columns) j nowhere)
     (columns-differ sheet e i j nowhere l h)
 
 -- ---- the bytes of names

@@ -39,9 +39,6 @@ unfolding loaded
 loaded-job q e = rw e
 
 module _ {s : List ℕ} {sheet : Sheet} (form : OfForm s sheet) (right : sheetFault sheet ≡ none) where
-  words : Words s columnsFrom (form .columnsTo) (sheet .columns)
-  words = laid-columns form
-
   few : length (sheet .columns) ≤ mostColumns
   few = counts s sheet form right .fewColumns
 
@@ -60,7 +57,7 @@ module _ {s : List ℕ} {sheet : Sheet} (form : OfForm s sheet) (right : sheetFa
         → ((q to : ℕ) (columns : List Spot) (rows : List (Line (List Spot))) → Words s columnsFrom q columns → length columns ≤ mostColumns
         → Rows s forbidKey (places .forbids) to rows → length rows ≤ mostForbidden → SetsWritten columns rows count new)
         → SetsWritten (sheet .columns) (sheet .forbids) count new
-    sets-read f = f _ _ (sheet .columns) (sheet .forbids) words few (forbid-rows form at) (counts s sheet form right .fewForbids)
+    sets-read f = f _ _ (sheet .columns) (sheet .forbids) (laid-columns form) few (forbid-rows form at) (counts s sheet form right .fewForbids)
 
     -- and fill no more than 32 places
     pub sets-few : {count : ℕ} {new : List ℕ} → SetsWritten (sheet .columns) (sheet .forbids) count new → count ≤ mostForbidden
@@ -80,7 +77,7 @@ module _ {s : List ℕ} {sheet : Sheet} (form : OfForm s sheet) (right : sheetFa
   numbers-read : {n many marked : ℕ} {sets marks : List ℕ} → n ≡ length (sheet .columns) → SetsWritten (sheet .columns) (sheet .forbids) many sets
       → MarksWritten s (sheet .needs) marked marks → record { columns = n; forbidden = take many sets; marks = take marked marks } ≡ numbersOf sheet
   unfolding numbersOf
-  numbers-read counted written laid-marks = rw (counted, written .sets, laid-marks .marks (form .columnsTo) (sheet .columns) words few)
+  numbers-read counted written laid-marks = rw (counted, written .sets, laid-marks .marks (form .columnsTo) (sheet .columns) (laid-columns form) few)
 
   -- and with the names they are the answer
   pub read-whole : {table : Table} {sets marks : List ℕ} {many marked : ℕ}
@@ -90,7 +87,7 @@ module _ {s : List ℕ} {sheet : Sheet} (form : OfForm s sheet) (right : sheetFa
       → record { refusal = 0; place = 0; job = l .job; names = table .names } ≡ readOf (readingOf sheet)
   unfolding namesOf
   read-whole all written laid-marks l e =
-      let tabled = all _ (sheet .columns) words few in
+      let tabled = all _ (sheet .columns) (laid-columns form) few in
       let same = numbers-read (tabled .many) written laid-marks in
       let job : l .job ≡ jobWith (numbersOf sheet)
       = ap (λ (k : Loaded). k .job) e ∙ ap (λ (q : Numbers). loaded q .job) same ∙ loaded-job (numbersOf sheet) (sheet-fit s sheet form right) in
