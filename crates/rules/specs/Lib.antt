@@ -12,14 +12,17 @@ pub mod Diagrams
 pub mod Paths
 pub mod Refusals
 pub mod Signs
+pub mod Words
 pub mod Names
 pub mod Phrases
 pub mod Texts
 pub mod Sheets
 pub mod SheetFaults
 pub mod Readings
+pub mod Positions
 pub mod Drawings
 pub mod Plannings
+pub mod Pages
 pub mod Verdicts
 pub mod Demands
 pub mod SmallTable
