@@ -48,3 +48,6 @@ pub mod SheetNames
 pub mod Drawings
 pub mod Plannings
 pub mod SmallTable
+pub mod Words
+pub mod Positions
+pub mod Pages
