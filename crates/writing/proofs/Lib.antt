@@ -1,0 +1,2 @@
+-- Laws of added bytes. Assumes nothing.
+pub mod Adding

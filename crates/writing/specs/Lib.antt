@@ -1,0 +1,2 @@
+-- What the contracts of writing cite besides the rules.
+pub mod Added
