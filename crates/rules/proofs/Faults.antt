@@ -8,12 +8,14 @@ use Prim.Native.Nat.{ℕ, _<_}
 use native.Mathlib.Omega.{arith}
 use borrow.Author.Tests.{eqb-true, eqb-false}
 use lib.Dec.{eqb}
+use lib.ListN.{length}
 use Rattle.rules.specs.Refusals.{tooMany, endNumberOther}
 use Rattle.rules.specs.Texts.{Sheet, OfForm}
 use Rattle.rules.specs.Sheets.{Refusal, refusal, firstOver, linesIn, namesFault, endFault, sheetFault}
 use Rattle.rules.specs.SheetFaults.{IsFault, column-twice, forbid-unknown, forbid-twice, need-unknown, IsRight, HasFault, too-many, name-wrong, end-wrong}
-use Rattle.rules.proofs.TooMany.{over-none, over-smallest}
-use Rattle.rules.proofs.NameFaults.{names-fault-none, names-fault-smallest}
+use Rattle.rules.proofs.Places.{sheet-ends}
+use Rattle.rules.proofs.TooMany.{over-none, over-smallest, over-within}
+use Rattle.rules.proofs.NameFaults.{names-fault-none, names-fault-smallest, names-fault-within}
 
 module _ (sheet : Sheet) where
   -- there is one fault at most
@@ -56,6 +58,12 @@ module _ (sheet : Sheet) where
   Found (some f) = HasFault sheet f
 
   module _ {s : List ℕ} (form : OfForm s sheet) where
+    -- such a fault stands within the text
+    pub fault-place : {f : Refusal} → HasFault sheet f → f .place < length s
+    fault-place (too-many a b) = over-within sheet _ form a
+    fault-place (name-wrong a b c) = names-fault-within sheet _ form b
+    fault-place (end-wrong a b c) = sheet-ends form .1
+
     found : Found (sheetFault sheet)
     unfolding sheetFault endFault orElse
     found = go (firstOver sheet) refl (namesFault sheet) refl (eqb (sheet .ended .value) (linesIn sheet)) refl

@@ -19,6 +19,7 @@ pub mod Choices
 pub mod Plans
 pub mod SamePlans
 pub mod Useful
+pub mod SplitSizes
 pub mod Verdicts
 pub mod FirstFaults
 pub mod Demands

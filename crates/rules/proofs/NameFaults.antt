@@ -6,6 +6,7 @@ use mathlib.Core.List.{List, [], _∷_, _++_, map, List·Memᴰ, List·Memᴰ·h
 use mathlib.Core.Option.{Option, none, some, Option·map, orElse, Option·some-injective, Option·none-ne-some, map-eq-none-iff}
 use Prim.Native.Nat.{ℕ, _<_, _≤_}
 use native.Mathlib.Omega.{arith}
+use lib.ListN.{length}
 use Rattle.rules.specs.Refusals.{nameTwice, nameUnknown}
 use Rattle.rules.specs.Names.{Spot, sameName}
 use Rattle.rules.specs.Phrases.{Formula, namesIn}
@@ -16,7 +17,7 @@ use Rattle.rules.proofs.Lists.{holds-fails, not-holds, any-one, any-in}
 use Rattle.rules.proofs.Searches.{else-none}
 use Rattle.rules.proofs.Smallest.{NoneMissed, Smallest, smallest-none, smallest-some, smallest-else}
 use Rattle.rules.proofs.Places.{nothing, onward, rise-forward, NamesRise, LinesRise, no-lines, next-line, lines-places}
-use Rattle.rules.proofs.Places.{SheetRises, sheet-rises}
+use Rattle.rules.proofs.Places.{SheetRises, sheet-rises, sheet-ends}
 
 -- a name of which the test says so stands among these
 pub stands-among : (names : List Spot) (x : Spot) → standsIn names x ≡ true → Among names x
@@ -290,3 +291,21 @@ module _ (sheet : Sheet) where
           (smallest-else _ InForbids InNeeds (λ (f : Refusal). InForbids f ⊎ InNeeds f) _ _ (line-smallest _ _ (rises .forbidsRise))
           (line-none _ _ (sheet .forbids)) (line-smallest _ _ (rises .needsRise)) late (λ x h. h) (λ x h. h))
           later found-fault fault-found
+
+  -- in a text of the form a name at fault stands within the text
+  pub names-fault-within : {s : List ℕ} (f : Refusal) → OfForm s sheet → IsFault sheet f → f .place < length s
+  names-fault-within {s} f form h = go (fault-found f h)
+    where
+      rises : SheetRises sheet
+      rises = sheet-rises form
+
+      forbids : rises .forbidsFrom ≤ rises .needsFrom
+      forbids = rise-forward _ (lines-places _ (rises .forbidsRise))
+
+      needs : rises .needsFrom ≤ rises .endFrom
+      needs = rise-forward _ (lines-places _ (rises .needsRise))
+
+      go : InColumns f ⊎ (InForbids f ⊎ InNeeds f) → f .place < length s
+      go (inl i) = omega (arith, forbids, needs, sheet-ends form, fault-within columnFault (rises .columnsRise) i)
+      go (inr (inl i)) = omega (arith, needs, sheet-ends form, line-within _ _ (rises .forbidsRise) i)
+      go (inr (inr i)) = omega (arith, sheet-ends form, line-within _ _ (rises .needsRise) i)

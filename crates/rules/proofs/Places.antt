@@ -8,7 +8,7 @@ use lib.ListN.{length, drop}
 use Rattle.rules.specs.Names.{Spot, Names, last-name, more-names}
 use Rattle.rules.specs.Phrases.{Formula, namesIn, Join, ors, ands, joinOf, Kind, item, list, rest, operand}
 use Rattle.rules.specs.Phrases.{Stands, first, last, next, name, bracketed}
-use Rattle.rules.specs.Texts.{Line, Lines, no-line, one-line, Sheet, OfForm}
+use Rattle.rules.specs.Texts.{Line, Lines, no-line, one-line, Number, one-digit, two-digits, Sheet, OfForm}
 use Rattle.rules.proofs.Names.{name-some}
 
 -- ---- places that rise
@@ -147,3 +147,13 @@ sheet-rises f =
       forbidsRise = lines-rise (λ (v : List Spot). v) (omega arith) (λ p q a. names-rise) (f .forbids);
       needsRise = lines-rise namesIn (omega arith) (λ p q a. phrase-rises) (f .needs);
     }
+
+number-some : {s : List ℕ} {p q n : ℕ} → Number s p q n → p < q
+number-some (one-digit d) = omega arith
+number-some (two-digits d z c) = omega arith
+
+-- the end line's number stands behind all of them, and within the text
+pub sheet-ends : {s : List ℕ} {sheet : Sheet} (f : OfForm s sheet)
+    → (sheet-rises f .endFrom ≤ sheet .ended .place) × (sheet .ended .place < length s)
+unfolding sheet-rises
+sheet-ends f = let n = number-some (f .number) in (omega (arith, f .ended), omega (arith, f .ended, f .whole))

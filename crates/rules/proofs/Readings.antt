@@ -14,7 +14,7 @@ use Rattle.rules.specs.Sheets.{Refusal, refusal, sheetFault, numbersOf, 
 use Rattle.rules.specs.Readings.{mostBytes, Reading, refused, taken, readingOf, Reads, too-long, not-of-form, of-form}
 use Rattle.rules.proofs.Texts.{sheet-unique, stops-unique}
 use Rattle.rules.specs.SheetFaults.{IsRight, HasFault}
-use Rattle.rules.proofs.Faults.{right-exactly, fault-exactly, fault-number}
+use Rattle.rules.proofs.Faults.{right-exactly, fault-exactly, fault-number, fault-place}
 
 -- one text has one answer
 pub one-reading : {s : List ℕ} {r r′ : Reading} → Reads s r → Reads s r′ → r ≡ r′
@@ -151,3 +151,12 @@ refused-numbers {s} {number} {p} h = go (cause h)
     go (long e q l) = (omega arith, omega arith)
     go (stops e l a) = (omega arith, omega arith)
     go (fault a) = let n = fault-number (a .sheet) (a .fault) in (omega arith, omega arith)
+
+-- and its place is at most 8,192
+pub refused-place : {s : List ℕ} {number p : ℕ} → Reads s (refused number p) → p ≤ mostBytes
+refused-place {s} {number} {p} h = go (cause h)
+  where
+    go : Cause s number p → p ≤ mostBytes
+    go (long e q l) = omega arith
+    go (stops e l a) = omega (arith, a .within)
+    go (fault a) = omega (arith, a .short, fault-place (a .sheet) (a .form) (a .fault))

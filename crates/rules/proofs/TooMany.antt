@@ -5,7 +5,7 @@ use mathlib.Core.List.{List, [], _∷_, List·Memᴰ, List·Memᴰ·head, List·
 use mathlib.Core.Option.{none, some, Option·map, Option·none-ne-some}
 use Prim.Native.Nat.{ℕ, zero, suc, _<_, _≤_}
 use native.Mathlib.Omega.{arith}
-use lib.ListN.{drop}
+use lib.ListN.{length, drop}
 use Rattle.rules.specs.Lists.{firstOf}
 use Rattle.rules.specs.Sets.{mostColumns}
 use Rattle.rules.specs.Numbers.{mostForbidden, mostNeeds, mostColumnMarks}
@@ -17,7 +17,7 @@ use Rattle.rules.specs.SheetFaults.{IsOver, column-over, forbid-over, ne
 use Rattle.rules.proofs.Searches.{else-none}
 use Rattle.rules.proofs.Smallest.{NoneMissed, Smallest, smallest-none, smallest-some, smallest-else}
 use Rattle.rules.proofs.Places.{Rise, nothing, onward, rise-forward, rise-within, rise-drop, LinesRise, no-lines, next-line}
-use Rattle.rules.proofs.Places.{lines-places, lines-names, SheetRises, sheet-rises}
+use Rattle.rules.proofs.Places.{lines-places, lines-names, SheetRises, sheet-rises, sheet-ends}
 
 module _ {A : Type 0} (place : A → ℕ) where
   -- the place of one of these
@@ -179,3 +179,23 @@ over-smallest sheet p form e = let t = found p e in (t .0, λ q h. least q (t .1
     least : (q : ℕ) → (p ≡ q) ⊎ (p < q) → p ≤ q
     least q (inl h) = omega arith
     least q (inr h) = omega arith
+
+-- in a text of the form what is too many stands within the text
+pub over-within : {s : List ℕ} (sheet : Sheet) (p : ℕ) → OfForm s sheet → IsOver sheet p → p < length s
+over-within {s} sheet p form h = go (over-is sheet p h)
+  where
+    rises : SheetRises sheet
+    rises = sheet-rises form
+
+    forbids : rises .forbidsFrom ≤ rises .needsFrom
+    forbids = rise-forward _ (lines-places _ (rises .forbidsRise))
+
+    needs : rises .needsFrom ≤ rises .endFrom
+    needs = rise-forward _ (lines-places _ (rises .needsRise))
+
+    go : LateColumn sheet p ⊎ (LateForbid sheet p ⊎ LateNeed sheet p) → p < length s
+    go (inl i) =
+        omega (arith, forbids, needs, sheet-ends form, place-within _ (rise-drop _ mostColumns (rises .columnsRise)) i)
+    go (inr (inl i)) =
+        omega (arith, needs, sheet-ends form, place-within _ (rise-drop _ mostForbidden (lines-places _ (rises .forbidsRise))) i)
+    go (inr (inr i)) = omega (arith, sheet-ends form, need-within (rises .needsRise) i)
