@@ -17,7 +17,7 @@ use Rattle.job.specs.declared.Loaded.{Loaded}
 held : (numbers : List ℕ) (places : ℕ) → length numbers ≤ places → take (length numbers) (written numbers (replicate places 0)) ≡ numbers
 held numbers places h = take-written numbers (replicate places 0) (rw length-replicate h)
 
-few-sets : (q : Numbers) → unfit q ≡ false → length (q .forbidden) ≤ 32
+pub few-sets : (q : Numbers) → unfit q ≡ false → length (q .forbidden) ≤ 32
 unfolding setsTooMany
 few-sets q e = ltb-false 32 (length (q .forbidden)) (fit-clauses q e .fewSets)
 

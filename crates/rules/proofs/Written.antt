@@ -4,7 +4,7 @@ use mathlib.Core.List.{List, [], _∷_, _++_}
 use Prim.Native.Nat.{ℕ, zero, suc, _+_, _≤_, _<_}
 use native.Mathlib.Numerals.{add-one}
 use native.Mathlib.Omega.{arith}
-use lib.ListN.{length, getD, set, take, drop, replicate}
+use lib.ListN.{length, getD, set, take, drop, replicate, getD-replicate}
 use Rattle.rules.specs.Lists.{written}
 
 module _ {A : Type 0} where
@@ -63,6 +63,14 @@ module _ {A : Type 0} where
   getD-written (x ∷ new) [] k d h l = absurd (omega arith)
   getD-written (x ∷ new) (y ∷ old) zero d h l = refl
   getD-written (x ∷ new) (y ∷ old) (suc k) d h l = getD-written new old k d (omega arith) (omega arith)
+
+  -- over equal ones, which stand for nothing
+  pub getD-padded : (new : List A) (n k : ℕ) (d : A) → k < n → getD (written new (replicate n d)) k d ≡ getD new k d
+  unfolding written
+  getD-padded [] n k d h = getD-replicate n k d d h
+  getD-padded (x ∷ new) zero k d h = absurd (omega arith)
+  getD-padded (x ∷ new) (suc n) zero d h = refl
+  getD-padded (x ∷ new) (suc n) (suc k) d h = getD-padded new n k d (omega arith)
 
   -- a list that is another from a place on was written over the places before
   pub written-back : (count : ℕ) (old new : List A) → length new ≡ length old → drop count new ≡ drop count old

@@ -10,7 +10,7 @@ use Rattle.rules.specs.Names.{mostNameBytes}
 use Rattle.rules.proofs.Written.{length-written, take-written, drop-written, written-after, written-padded}
 use Rattle.text.specs.Tables.{tableBytes, nameRows, nameTable}
 
-length-rows : (names : List (List ℕ)) → length (nameRows names) ≡ mostNameBytes * length names
+pub length-rows : (names : List (List ℕ)) → length (nameRows names) ≡ mostNameBytes * length names
 unfolding nameRows
 length-rows [] = refl
 length-rows (name ∷ names) =

@@ -10,6 +10,11 @@ use Rattle.rules.specs.Lists.{written}
 use Rattle.rules.proofs.Written.{length-written, written-last, written-full}
 use Rattle.writing.specs.Added.{Holds, Adds}
 
+-- a page to which nothing was added holds an empty text
+pub holds-nothing : (old : List ℕ) → Holds [] old 0 old
+unfolding written
+holds-nothing old = record { place = omega arith; held = refl }
+
 -- nothing is added
 pub adds-nothing : (next : ℕ) (page : List ℕ) → Adds [] next page next page
 adds-nothing next page text old h = rw (append-nil text) h
