@@ -1,10 +1,12 @@
 -- What reading and planning a text come to together, and the ways in which the call ends. Assumes nothing.
 use mathlib.Core.Path.{_≡_, refl, sym, ap, _∙_}
+use mathlib.Core.Bool.{Bool, true, false}
 use mathlib.Core.List.{List}
 use Prim.Native.Nat.{ℕ, _≤_, _<_, min}
 use native.Mathlib.Omega.{arith}
+use lib.Dec.{ltb}
 use lib.ListN.{length, take, replicate, length-replicate, length-map}
-use borrow.Author.Tests.{lt-ltb, le-ltb}
+use borrow.Author.Tests.{ltb-false, lt-ltb, le-ltb}
 use Rattle.rules.specs.Lists.{written}
 use Rattle.rules.specs.Numbers.{Numbers}
 use Rattle.rules.specs.Refusals.{sliceTooShort}
@@ -170,3 +172,25 @@ module _ {s : List ℕ} {t : JobRead} (a : Takes s t) where
           = ap (λ (k : ℕ). take k new) (count x) ∙ ap (take (length (x .split))) (extracts x)
           ∙ take-written (x .split) room (omega (arith, x .few, long)) in
           outcome ∙ ap (plannedWith (namesOf (has-job .sheet))) (x .is) ∙ ap (released (namesOf (has-job .sheet))) (sym all)
+
+-- ---- what a caller has
+
+length-reported : (o : Outcome) (bytes : ℕ) → reportedOf o bytes .length ≡ bytes
+length-reported (refused number place) bytes = refl
+length-reported (released names split) bytes = refl
+
+-- the answered length lies within the page
+pub length-within : {s old new : List ℕ} {r : Reported} → Reports s old r new → r .length ≤ length new
+length-within {s} {old} {new} {r} a = go (ltb (length old) mostPageBytes) refl
+  where
+    o : Outcome
+    o = outcomeOf (a .reading)
+
+    go : (b : Bool) → ltb (length old) mostPageBytes ≡ b → r .length ≤ length new
+    go true e =
+        let none : r .length ≡ 0 = ap (λ (x : Reported). x .length) (rw e at (a .answered)) in
+        omega (arith, none)
+    go false e =
+        let bytes : r .length ≡ length (page o) = ap (λ (x : Reported). x .length) (rw e at (a .answered)) ∙ length-reported o (length (page o)) in
+        let long : length new ≡ length old = ap length (rw e at (a .printed)) ∙ length-written (page o) old in
+        omega (arith, bytes, long, page-fits (a .reads), ltb-false (length old) mostPageBytes e)

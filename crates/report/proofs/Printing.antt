@@ -1,6 +1,6 @@
 -- The lines of the extracts put one after the other, and a page that is put from its first place on. Assumes nothing.
 use mathlib.Core.Path.{ap}
-use mathlib.Core.List.{List, []}
+use mathlib.Core.List.{List}
 use Prim.Native.Nat.{ℕ, _+_, _≤_, _<_}
 use native.Mathlib.Numerals.{add-one}
 use lib.ListN.{length, getD, take}
@@ -10,7 +10,7 @@ use Rattle.rules.specs.Words.{line}
 use Rattle.rules.specs.Pages.{Outcome, joined, namesAt, extractLines, page}
 use Rattle.rules.proofs.Pages.{lines-more}
 use Rattle.writing.specs.Added.{Adds}
-use Rattle.writing.proofs.Adding.{holds-nothing, adds-both}
+use Rattle.writing.proofs.Adding.{holds-added, adds-both}
 use Rattle.report.specs.Promises.{reportedOf, Prints}
 
 -- the lines of the first i extracts are put, and then that of the next
@@ -27,5 +27,5 @@ extracts-all names split i h a = rw (take-all i split h) at a
 
 pub prints : (o : Outcome) (old : List ℕ) (next : ℕ) (new : List ℕ) → Adds (page o) 0 old next new → Prints o old (reportedOf o next) new
 prints o old next new a =
-    let held = a [] old (holds-nothing old) in
+    let held = holds-added a in
     record { answered = ap (reportedOf o) (held .place); printed = held .held }

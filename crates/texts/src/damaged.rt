@@ -1,10 +1,10 @@
 // Texts with one byte left out, put in or changed. What they give is added up.
 use crate::answers;
-use crate::repeats::put;
-use crate::spelling::ROOM;
 use naming::signs::byte;
 use naming::signs::digit;
 use naming::signs::letter;
+use spelt::repeats::put;
+use spelt::spelling::ROOM;
 use std::num::wrapping_add_usize;
 use text::JobRead;
 use worked::print;

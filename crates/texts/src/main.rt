@@ -1,11 +1,10 @@
 // Worked cases of reading a job text. Standard input has a case a line, its name and its text; what they give is compared with `stdout`.
 mod answers; // answers.rt: one call, and its line
 mod damaged; // damaged.rt: texts with one byte left out, put in or changed
-mod repeats; // repeats.rt: bytes that stand often
-mod spelling; // spelling.rt: how a case spells the bytes of its text
 
 use libc::STDIN_FILENO;
 use naming::words::line_end;
+use spelt::spelling;
 ghost use Prim.Native.Nat.{_≤_};
 ghost use lib.ListN.{length as lengthOf};
 

@@ -10,10 +10,18 @@ use Rattle.rules.specs.Lists.{written}
 use Rattle.rules.proofs.Written.{length-written, written-last, written-full}
 use Rattle.writing.specs.Added.{Holds, Adds}
 
--- a page to which nothing was added holds an empty text
-pub holds-nothing : (old : List ℕ) → Holds [] old 0 old
+-- a page holds an empty text before its first place
+holds-nothing : (page : List ℕ) → Holds [] page 0 page
 unfolding written
-holds-nothing old = record { place = omega arith; held = refl }
+holds-nothing page = record { place = omega arith; held = refl }
+
+-- so it holds what is added at its first place
+pub holds-added : {more page new : List ℕ} {after : ℕ} → Adds more 0 page after new → Holds more page after new
+holds-added {more} {page} a = a [] page (holds-nothing page)
+
+-- the next place lies within the page, or is its end
+pub holds-within : {text old page : List ℕ} {next : ℕ} → Holds text old next page → next ≤ length page
+holds-within {text} {old} h = omega (arith, h .place, ap length (h .held) ∙ length-written text old)
 
 -- nothing is added
 pub adds-nothing : (next : ℕ) (page : List ℕ) → Adds [] next page next page

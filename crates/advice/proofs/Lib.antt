@@ -1,0 +1,6 @@
+-- Laws of what the sentences are made of. Assumes nothing.
+pub mod Held
+pub mod Located
+pub mod Named
+pub mod Opened
+pub mod Wrongs

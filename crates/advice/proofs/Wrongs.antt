@@ -1,0 +1,154 @@
+-- What is wrong at a place, by the byte there and those before it. Assumes nothing.
+use mathlib.Core.Path.{_≡_}
+use mathlib.Core.Bool.{true, false, cond}
+use mathlib.Core.List.{List}
+use Prim.Native.Nat.{ℕ, _+_, _-_, _≤_, _<_}
+use native.Mathlib.Decide.{ℕ-discrete}
+use native.Mathlib.Omega.{arith}
+use lib.Dec.{eqb}
+use lib.ListN.{length, take}
+use borrow.Author.Tests.{le-leb, lt-leb, eq-eqb, ne-eqb}
+use Rattle.rules.specs.Signs.{byteAt, letter, digit, inName, lineEnd, comma, plus, ampersand, bar, bracketOpen, bracketClose}
+use Rattle.rules.specs.Phrases.{mostBrackets}
+use Rattle.rules.proofs.Lists.{holds-fails, or-neither}
+use Rattle.advice.specs.Sentences.{capital, joining, nameFull, openAfter, wrongSign, wrongAt}
+use Rattle.advice.specs.declared.wrong.Wrong.the-variants.{EndsEarly, CarriageReturn, Blank, EmptyLine, LineEndsEarly, Capital, LineBegins}
+use Rattle.advice.specs.declared.wrong.Wrong.the-variants.{LongName, DeepBracket, DigitFirst, Misplaced, Foreign}
+
+-- ---- bytes
+
+-- any other byte than these seven
+pub joining-none : (b : ℕ) → (b ≡ 61 → ⊥) → (b ≡ comma → ⊥) → (b ≡ plus → ⊥) → (b ≡ ampersand → ⊥) → (b ≡ bar → ⊥) → (b ≡ bracketOpen → ⊥)
+    → (b ≡ bracketClose → ⊥) → joining b ≡ false
+unfolding joining
+joining-none b h i j k l m n =
+    rw (ne-eqb b 61 h, ne-eqb b comma i, ne-eqb b plus j, ne-eqb b ampersand k, ne-eqb b bar l, ne-eqb b bracketOpen m, ne-eqb b bracketClose n)
+
+-- a byte that is one of two neighbours of which each is one of these
+pub joining-either : (b k : ℕ) → joining k ≡ true → joining (k + 1) ≡ true → k ≤ b → b < k + 2 → joining b ≡ true
+joining-either b k e f l h = go (ℕ-discrete b k)
+  where
+    go : Dec (b ≡ k) → joining b ≡ true
+    go (yes same) = rw same e
+    go (no other) = let next : b ≡ k + 1 = omega arith in rw next f
+
+-- a byte in a name is no bracket
+named-no-bracket : (b : ℕ) → inName b ≡ true → eqb b bracketOpen ≡ false
+named-no-bracket b e = ne-eqb b bracketOpen λ f. holds-fails (inName b) e (rw f)
+
+-- a byte in no name is no digit
+no-name-no-digit : (b : ℕ) → inName b ≡ false → digit b ≡ false
+no-name-no-digit b e = or-neither (letter b) (digit b) e .1
+
+-- ---- at a sign inside a line
+
+module _ (s : List ℕ) (p : ℕ) where
+  module _ (named : inName (byteAt s p) ≡ true) where
+    -- a letter or a digit too many
+    pub wrong-long : nameFull s p ≡ true → LongName ≡ wrongSign s p
+    unfolding wrongSign
+    wrong-long e = rw (named, e)
+
+    -- a letter
+    pub wrong-letter : nameFull s p ≡ false → digit (byteAt s p) ≡ false → Misplaced ≡ wrongSign s p
+    unfolding wrongSign
+    wrong-letter e f = rw (named, e, named-no-bracket (byteAt s p) named, f)
+
+    -- a digit behind a letter or a digit
+    pub wrong-later : nameFull s p ≡ false → digit (byteAt s p) ≡ true → inName (byteAt s (p - 1)) ≡ true → Misplaced ≡ wrongSign s p
+    unfolding wrongSign
+    wrong-later e f g = rw (named, e, named-no-bracket (byteAt s p) named, f, g)
+
+    -- a digit behind a sign
+    pub wrong-first : nameFull s p ≡ false → digit (byteAt s p) ≡ true → inName (byteAt s (p - 1)) ≡ false → DigitFirst ≡ wrongSign s p
+    unfolding wrongSign
+    wrong-first e f g = rw (named, e, named-no-bracket (byteAt s p) named, f, g)
+
+  -- a bracket too many
+  pub wrong-deep : byteAt s p ≡ bracketOpen → mostBrackets ≤ openAfter 0 (take p s) → DeepBracket ≡ wrongSign s p
+  unfolding wrongSign
+  wrong-deep e h = rw (e, le-leb mostBrackets (openAfter 0 (take p s)) h)
+
+  -- another bracket
+  pub wrong-bracket : byteAt s p ≡ bracketOpen → openAfter 0 (take p s) < mostBrackets → Misplaced ≡ wrongSign s p
+  unfolding wrongSign joining
+  wrong-bracket e h = rw (e, lt-leb mostBrackets (openAfter 0 (take p s)) h)
+
+  module _ (other : inName (byteAt s p) ≡ false) (no-bracket : byteAt s p ≡ bracketOpen → ⊥) where
+    wrong-unnamed : cond (joining (byteAt s p)) Misplaced Foreign ≡ wrongSign s p
+    unfolding wrongSign
+    wrong-unnamed = rw (other, ne-eqb (byteAt s p) bracketOpen no-bracket, no-name-no-digit (byteAt s p) other)
+
+    -- a sign between names
+    pub wrong-joining : joining (byteAt s p) ≡ true → Misplaced ≡ wrongSign s p
+    wrong-joining e = rw e at wrong-unnamed
+
+    -- a byte that is none of a job text
+    pub wrong-foreign : joining (byteAt s p) ≡ false → Foreign ≡ wrongSign s p
+    wrong-foreign e = rw e at wrong-unnamed
+
+-- ---- anywhere
+
+-- the byte at a place is within the text, and neither a carriage return, a blank nor a line's end
+pub record Plain (s : List ℕ) (p : ℕ) : Type 0 where
+  pub inside : p < length s
+  pub noReturn : byteAt s p ≡ 13 → ⊥
+  pub noBlank : byteAt s p ≡ 32 → ⊥
+  pub noTab : byteAt s p ≡ 9 → ⊥
+  pub noEnd : byteAt s p ≡ lineEnd → ⊥
+
+module _ (s : List ℕ) (p column : ℕ) where
+  -- past the end
+  pub wrong-end : length s ≤ p → EndsEarly ≡ wrongAt s p column
+  unfolding wrongAt
+  wrong-end h = rw (le-leb (length s) p h)
+
+  module _ (inside : p < length s) where
+    -- a carriage return
+    pub wrong-return : byteAt s p ≡ 13 → CarriageReturn ≡ wrongAt s p column
+    unfolding wrongAt
+    wrong-return e = rw (lt-leb (length s) p inside, e)
+
+    -- a blank
+    pub wrong-blank : byteAt s p ≡ 32 → Blank ≡ wrongAt s p column
+    unfolding wrongAt
+    wrong-blank e = rw (lt-leb (length s) p inside, e)
+
+    -- a tab
+    pub wrong-tab : byteAt s p ≡ 9 → Blank ≡ wrongAt s p column
+    unfolding wrongAt
+    wrong-tab e = rw (lt-leb (length s) p inside, e)
+
+    -- a line's end where the line begins
+    pub wrong-empty : byteAt s p ≡ lineEnd → column ≡ 1 → EmptyLine ≡ wrongAt s p column
+    unfolding wrongAt
+    wrong-empty e f = rw (lt-leb (length s) p inside, e, f)
+
+    -- and elsewhere
+    pub wrong-line-end : byteAt s p ≡ lineEnd → (column ≡ 1 → ⊥) → LineEndsEarly ≡ wrongAt s p column
+    unfolding wrongAt
+    wrong-line-end e f = rw (lt-leb (length s) p inside, e, ne-eqb column 1 f)
+
+  module _ (plain : Plain s p) where
+    wrong-plain : cond (capital (byteAt s p)) Capital (cond (eqb column 1) LineBegins (wrongSign s p)) ≡ wrongAt s p column
+    unfolding wrongAt
+    wrong-plain =
+        rw (
+          lt-leb (length s) p (plain .inside),
+          ne-eqb (byteAt s p) 13 (plain .noReturn),
+          ne-eqb (byteAt s p) 32 (plain .noBlank),
+          ne-eqb (byteAt s p) 9 (plain .noTab),
+          ne-eqb (byteAt s p) lineEnd (plain .noEnd),
+        )
+
+    -- a capital letter
+    pub wrong-capital : capital (byteAt s p) ≡ true → Capital ≡ wrongAt s p column
+    wrong-capital e = rw e at wrong-plain
+
+    -- any other byte where a line begins
+    pub wrong-line : capital (byteAt s p) ≡ false → column ≡ 1 → LineBegins ≡ wrongAt s p column
+    wrong-line e f = rw (e, eq-eqb column 1 f) at wrong-plain
+
+    -- and elsewhere
+    pub wrong-sign : capital (byteAt s p) ≡ false → (column ≡ 1 → ⊥) → wrongSign s p ≡ wrongAt s p column
+    wrong-sign e f = rw (e, ne-eqb column 1 f) at wrong-plain

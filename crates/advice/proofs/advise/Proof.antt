@@ -1,0 +1,58 @@
+-- `advice::advise` meets its contract. Assumes nothing.
+use borrow.Author.Tests.{lt-leb}
+use Rattle.rules.specs.Refusals.{endNumberOther}
+use Rattle.rules.specs.Words.{bytes}
+use Rattle.advice.specs.Sentences.{sentence}
+use Rattle.writing.proofs.Adding.{holds-added}
+use Rattle.advice.proofs.Held.{holds-remedy}
+use borrow.Author.Needs.{needs}
+use Rattle.advice.proofs.advise.Statement.{statement}
+use Rattle.advice.proofs.advise.Tie as tie
+
+slice-aggregate-put : tie.Need-slice-aggregate-put
+slice-aggregate-put c = search needs
+
+put-requires : tie.Need-put-requires
+put-requires c κs = search needs
+
+same-length : tie.Need-same-length
+same-length c = search needs
+
+returns : tie.Need-returns
+unfolding bytes sentence
+returns c =
+    let call = c .before .before in
+    rw (lt-leb _ endNumberOther (call .before .before .before .if1 .taken)) (holds-added (call .put .ensures))
+
+position-of-requires : tie.Need-position-of-requires
+position-of-requires c κs = search needs
+
+put-located-requires : tie.Need-put-located-requires
+put-located-requires c κs = search needs
+
+put-remedy-requires : tie.Need-put-remedy-requires
+put-remedy-requires c κs = search needs
+
+same-length-2 : tie.Need-same-length-2
+same-length-2 c = search needs
+
+returns-2 : tie.Need-returns-2
+returns-2 c =
+    let last = c .before .before in
+    let first = last .before .before .before .before in
+    let position = first .before .before in
+    holds-remedy _ _ _ (position .before .if1 .left) (position .position-of .ensures) (first .put-located .ensures) (last .put-remedy .ensures)
+
+pub advise-spec : {M : Type 1} → statement M
+advise-spec =
+    tie.close
+    (tie.spec
+    slice-aggregate-put
+    put-requires
+    same-length
+    returns
+    position-of-requires
+    put-located-requires
+    put-remedy-requires
+    same-length-2
+    returns-2)

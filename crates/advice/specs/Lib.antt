@@ -1,0 +1,3 @@
+-- What the contracts of advice cite besides the rules.
+pub mod Positions
+pub mod Sentences

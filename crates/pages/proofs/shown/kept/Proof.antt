@@ -1,0 +1,50 @@
+-- `pages::shown::kept` is safe and ends. Assumes nothing.
+use Prim.Native.Nat.{_-_}
+use mathlib.Core.Path.{_≡_, refl}
+use lib.ListN.{length}
+use borrow.Author.Needs.{needs}
+use Rattle.pages.proofs.shown.kept.Statement.{statement}
+use Rattle.pages.proofs.shown.kept.Tie as tie
+use Rattle.pages.proofs.shown.kept.Reads as reads
+use Rattle.pages.proofs.shown.kept.Lts as lts
+
+abbrev Inv-loop : tie.InvT-loop
+Inv-loop page from i₀ i = Prim.Unit {0}
+
+abbrev μ-loop : tie.MeasureT-loop
+μ-loop page from i₀ i = length page - i
+
+loop-holds : tie.Need-loop-holds Inv-loop μ-loop
+loop-holds c = Prim.tt {0}
+
+shared-slice-read-if1 : tie.Need-shared-slice-read-if1 Inv-loop μ-loop
+shared-slice-read-if1 c = search needs
+
+returns : tie.Need-returns Inv-loop μ-loop
+returns c = search needs
+
+add-i : tie.Need-add-i Inv-loop μ-loop
+add-i c = search needs
+
+loop-less : tie.Need-loop-less Inv-loop μ-loop
+loop-less c = search needs
+
+loop-again : tie.Need-loop-again Inv-loop μ-loop
+loop-again c = Prim.tt {0}
+
+returns-2 : tie.Need-returns-2 Inv-loop μ-loop
+returns-2 c = search needs
+
+pub kept-spec : {M : Type 1} → statement M
+kept-spec =
+    tie.close
+    (tie.spec
+    Inv-loop
+    μ-loop
+    loop-holds
+    shared-slice-read-if1
+    returns
+    add-i
+    loop-less
+    loop-again
+    returns-2)
