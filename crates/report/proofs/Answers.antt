@@ -23,7 +23,7 @@ use Rattle.rules.proofs.Plannings.{Way, is-unfit, no-room, no-split, is-planned
 use Rattle.rules.proofs.Sheets.{counts}
 use Rattle.rules.proofs.SheetNames.{names-short, names-nonzero}
 use Rattle.rules.proofs.Pages.{HasJob, OutcomeWay, is-refused, none-correct, is-released, outcome-ways, page-fits}
-use Rattle.job.specs.Records.{numbersIn, jobWith}
+use Rattle.job.specs.Records.{numbersIn}
 use Rattle.job.proofs.Records.{fit-numbers}
 use Rattle.text.specs.declared.JobRead.{JobRead}
 use Rattle.text.specs.Promises.{readOf, Takes}

@@ -1,9 +1,8 @@
 -- The job of a text has room for its numbers. Assumes nothing.
-use mathlib.Core.Path.{_≡_, ap, _∙_}
+use mathlib.Core.Path.{_∙_}
 use Prim.Native.Nat.{ℕ, _≤_}
 use native.Mathlib.Omega.{arith}
 use lib.ListN.{length, replicate, length-replicate}
-use Rattle.rules.specs.Numbers.{Numbers, unfit}
 use Rattle.rules.proofs.Written.{length-written}
 use Rattle.job.specs.declared.Job.{Job}
 use Rattle.job.specs.Records.{jobWith}

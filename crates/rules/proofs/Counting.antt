@@ -84,16 +84,6 @@ leaf-most true = omega arith
 leaf-most false = omega arith
 
 module _ {A : Type 0} where
-  pub keep-append : (p : A → Bool) (xs ys : List A) → keep p (xs ++ ys) ≡ keep p xs ++ keep p ys
-  unfolding keep
-  keep-append p [] ys = refl
-  keep-append p (x ∷ xs) ys = go (p x) (keep-append p xs ys)
-    where
-      go : (b : Bool) → keep p (xs ++ ys) ≡ keep p xs ++ keep p ys
-          → cond b (x ∷ keep p (xs ++ ys)) (keep p (xs ++ ys)) ≡ cond b (x ∷ keep p xs) (keep p xs) ++ keep p ys
-      go true e = ap (λ (l : List A). x ∷ l) e
-      go false e = e
-
   pub keep-same : (p q : A → Bool) (xs : List A) → ((x : A) → List·Memᴰ x xs → p x ≡ q x) → keep p xs ≡ keep q xs
   unfolding keep
   keep-same p q [] f = refl

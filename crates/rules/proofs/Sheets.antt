@@ -104,8 +104,6 @@ counts s sheet form e =
       fewInNeeds = needs .1;
     }
 
--- ---- the number of lines
-
 -- ---- names
 
 -- where there is no fault, each name is tested against all names before it

@@ -5,11 +5,6 @@ use lib.Seq.{length-take-le}
 use borrow.Author.Needs.{needs}
 use Rattle.pages.proofs.one_case.Statement.{statement}
 use Rattle.pages.proofs.one_case.Tie as tie
-use Rattle.pages.proofs.one_case.Reads as reads
-use Rattle.pages.proofs.one_case.Lts as lts
-use Rattle.pages.proofs.shown.show.Reads as show-reads
-use Rattle.spelt.proofs.spelling.name_end.Reads as name-end-reads
-use Rattle.spelt.proofs.spelling.spell.Reads as spell-reads
 
 name-end-requires : tie.Need-name-end-requires
 name-end-requires c κs = search needs

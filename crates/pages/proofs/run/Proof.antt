@@ -5,10 +5,6 @@ use lib.ListN.{length}
 use borrow.Author.Needs.{needs}
 use Rattle.pages.proofs.run.Statement.{statement}
 use Rattle.pages.proofs.run.Tie as tie
-use Rattle.pages.proofs.run.Reads as reads
-use Rattle.pages.proofs.run.Lts as lts
-use Rattle.naming.proofs.words.line_end.Reads as line-end-reads
-use Rattle.pages.proofs.one_case.Reads as one-case-reads
 
 abbrev Inv-loop : tie.InvT-loop
 Inv-loop input from₀ from = from ≤ length input + 1

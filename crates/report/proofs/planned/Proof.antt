@@ -1,3 +1,4 @@
+-- `report::planned` meets its contract. Assumes nothing.
 use mathlib.Core.Path.{sym}
 use lib.Seq.{length-take-le}
 use Rattle.job.specs.Records.{numbersIn}
@@ -5,9 +6,6 @@ use Rattle.report.proofs.Filling.{sets-within, marks-within}
 use borrow.Author.Needs.{needs}
 use Rattle.report.proofs.planned.Statement.{statement}
 use Rattle.report.proofs.planned.Tie as tie
-use Rattle.report.proofs.planned.Reads as reads
-use Rattle.report.proofs.planned.Lts as lts
-use Rattle.planner.proofs.plan.Reads as plan-reads
 
 cast-plan : tie.Need-cast-plan
 cast-plan c = search needs

@@ -1,12 +1,8 @@
-use mathlib.Core.List.{[]}
-use Rattle.rules.specs.Pages.{page}
+-- `report::refused` meets its contract. Assumes nothing.
 use Rattle.report.proofs.Printing.{prints}
 use borrow.Author.Needs.{needs}
 use Rattle.report.proofs.refused.Statement.{statement}
 use Rattle.report.proofs.refused.Tie as tie
-use Rattle.report.proofs.refused.Reads as reads
-use Rattle.report.proofs.refused.Lts as lts
-use Rattle.report.proofs.lines.put_refusal.Reads as put-refusal-reads
 
 put-refusal-requires : tie.Need-put-refusal-requires
 put-refusal-requires c κs = search needs

@@ -3,9 +3,6 @@ use Rattle.report.proofs.Printing.{prints}
 use borrow.Author.Needs.{needs}
 use Rattle.report.proofs.released.Statement.{statement}
 use Rattle.report.proofs.released.Tie as tie
-use Rattle.report.proofs.released.Reads as reads
-use Rattle.report.proofs.released.Lts as lts
-use Rattle.report.proofs.lines.put_split.Reads as put-split-reads
 
 put-split-requires : tie.Need-put-split-requires
 put-split-requires c κs = search needs

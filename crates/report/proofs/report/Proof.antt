@@ -5,12 +5,6 @@ use Rattle.report.proofs.Answers.{reports-short, reports-whole, not-rea
 use borrow.Author.Needs.{needs}
 use Rattle.report.proofs.report.Statement.{statement}
 use Rattle.report.proofs.report.Tie as tie
-use Rattle.report.proofs.report.Reads as reads
-use Rattle.report.proofs.report.Lts as lts
-use Rattle.report.proofs.planned.Reads as planned-reads
-use Rattle.report.proofs.refused.Reads as refused-reads
-use Rattle.report.proofs.released.Reads as released-reads
-use Rattle.text.proofs.read.Reads as read-reads
 
 returns : tie.Need-returns
 returns c = reports-short _ _ (c .if1 .taken)

@@ -5,11 +5,6 @@ use Rattle.report.proofs.Answers.{length-within}
 use borrow.Author.Needs.{needs}
 use Rattle.split.proofs.answer.Statement.{statement}
 use Rattle.split.proofs.answer.Tie as tie
-use Rattle.split.proofs.answer.Reads as reads
-use Rattle.split.proofs.answer.Lts as lts
-use Rattle.io.proofs.write_all.Reads as write-all-reads
-use Rattle.report.proofs.report.Reads as report-reads
-use Rattle.split.proofs.explain.Reads as explain-reads
 
 slice-aggregate-report : tie.Need-slice-aggregate-report
 slice-aggregate-report c = search needs

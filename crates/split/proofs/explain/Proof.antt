@@ -5,10 +5,6 @@ use Rattle.writing.proofs.Adding.{holds-within}
 use borrow.Author.Needs.{needs}
 use Rattle.split.proofs.explain.Statement.{statement}
 use Rattle.split.proofs.explain.Tie as tie
-use Rattle.split.proofs.explain.Reads as reads
-use Rattle.split.proofs.explain.Lts as lts
-use Rattle.advice.proofs.advise.Reads as advise-reads
-use Rattle.io.proofs.write_all.Reads as write-all-reads
 
 slice-aggregate-advise : tie.Need-slice-aggregate-advise
 slice-aggregate-advise c = search needs

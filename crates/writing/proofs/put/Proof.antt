@@ -8,9 +8,6 @@ use Rattle.writing.proofs.Adding.{adds-nothing, adds-next, adds-all}
 use borrow.Author.Needs.{needs}
 use Rattle.writing.proofs.put.Statement.{statement}
 use Rattle.writing.proofs.put.Tie as tie
-use Rattle.writing.proofs.put.Reads as reads
-use Rattle.writing.proofs.put.Lts as lts
-use Rattle.writing.proofs.put_byte.Reads as put-byte-reads
 
 abbrev Inv-loop : tie.InvT-loop
 Inv-loop page₀ at words end₀ i₀ page end i = (i ≤ length words) × (length page ≡ length page₀) × Adds (take i words) end₀ page₀ end page

@@ -3,8 +3,6 @@ use Rattle.writing.proofs.Adding.{adds-byte, adds-no-byte}
 use borrow.Author.Needs.{needs}
 use Rattle.writing.proofs.put_byte.Statement.{statement}
 use Rattle.writing.proofs.put_byte.Tie as tie
-use Rattle.writing.proofs.put_byte.Reads as reads
-use Rattle.writing.proofs.put_byte.Lts as lts
 
 returns : tie.Need-returns
 returns c = adds-no-byte _ _ _ (c .if1 .taken)

@@ -1,12 +1,9 @@
 -- `pages::shown::kept` is safe and ends. Assumes nothing.
 use Prim.Native.Nat.{_-_}
-use mathlib.Core.Path.{_≡_, refl}
 use lib.ListN.{length}
 use borrow.Author.Needs.{needs}
 use Rattle.pages.proofs.shown.kept.Statement.{statement}
 use Rattle.pages.proofs.shown.kept.Tie as tie
-use Rattle.pages.proofs.shown.kept.Reads as reads
-use Rattle.pages.proofs.shown.kept.Lts as lts
 
 abbrev Inv-loop : tie.InvT-loop
 Inv-loop page from i₀ i = Prim.Unit {0}

@@ -5,13 +5,6 @@ use Rattle.report.proofs.Answers.{length-within}
 use borrow.Author.Needs.{needs}
 use Rattle.pages.proofs.shown.show_page.Statement.{statement}
 use Rattle.pages.proofs.shown.show_page.Tie as tie
-use Rattle.pages.proofs.shown.show_page.Reads as reads
-use Rattle.pages.proofs.shown.show_page.Lts as lts
-use Rattle.pages.proofs.shown.kept.Reads as kept-reads
-use Rattle.pages.proofs.shown.show_numbers.Reads as show-numbers-reads
-use Rattle.report.proofs.report.Reads as report-reads
-use Rattle.worked.proofs.print.line.Reads as line-reads
-use Rattle.worked.proofs.print.text.Reads as text-reads
 
 report-requires : tie.Need-report-requires
 report-requires c κs = search needs

@@ -5,10 +5,6 @@ use Rattle.writing.proofs.Adding.{holds-within}
 use borrow.Author.Needs.{needs}
 use Rattle.pages.proofs.shown.show_sentence.Statement.{statement}
 use Rattle.pages.proofs.shown.show_sentence.Tie as tie
-use Rattle.pages.proofs.shown.show_sentence.Reads as reads
-use Rattle.pages.proofs.shown.show_sentence.Lts as lts
-use Rattle.advice.proofs.advise.Reads as advise-reads
-use Rattle.worked.proofs.print.text.Reads as text-reads
 
 slice-aggregate-advise : tie.Need-slice-aggregate-advise
 slice-aggregate-advise c = search needs

@@ -1,10 +1,8 @@
+-- `report::lines::put_comma` meets its contract. Assumes nothing.
 use Rattle.writing.proofs.Adding.{adds-nothing}
 use borrow.Author.Needs.{needs}
 use Rattle.report.proofs.lines.put_comma.Statement.{statement}
 use Rattle.report.proofs.lines.put_comma.Tie as tie
-use Rattle.report.proofs.lines.put_comma.Reads as reads
-use Rattle.report.proofs.lines.put_comma.Lts as lts
-use Rattle.writing.proofs.put_byte.Reads as put-byte-reads
 
 returns : tie.Need-returns
 returns c = rw (c .if1 .taken) (adds-nothing _ _)

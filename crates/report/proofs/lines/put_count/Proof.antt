@@ -1,12 +1,8 @@
+-- `report::lines::put_count` meets its contract. Assumes nothing.
 use Rattle.writing.proofs.Adding.{adds-both}
 use borrow.Author.Needs.{needs}
 use Rattle.report.proofs.lines.put_count.Statement.{statement}
 use Rattle.report.proofs.lines.put_count.Tie as tie
-use Rattle.report.proofs.lines.put_count.Reads as reads
-use Rattle.report.proofs.lines.put_count.Lts as lts
-use Rattle.writing.proofs.put.Reads as put-reads
-use Rattle.writing.proofs.put_byte.Reads as put-byte-reads
-use Rattle.writing.proofs.put_number.Reads as put-number-reads
 
 put-requires : tie.Need-put-requires
 put-requires c κs = search needs

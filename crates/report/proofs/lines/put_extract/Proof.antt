@@ -4,11 +4,6 @@ use Rattle.writing.proofs.Adding.{adds-both}
 use borrow.Author.Needs.{needs}
 use Rattle.report.proofs.lines.put_extract.Statement.{statement}
 use Rattle.report.proofs.lines.put_extract.Tie as tie
-use Rattle.report.proofs.lines.put_extract.Reads as reads
-use Rattle.report.proofs.lines.put_extract.Lts as lts
-use Rattle.report.proofs.lines.put_names.Reads as put-names-reads
-use Rattle.writing.proofs.put.Reads as put-reads
-use Rattle.writing.proofs.put_byte.Reads as put-byte-reads
 
 slice-aggregate-put : tie.Need-slice-aggregate-put
 slice-aggregate-put c = search needs

@@ -12,9 +12,6 @@ use Rattle.report.proofs.Printing.{extracts-next, extracts-all}
 use borrow.Author.Needs.{needs}
 use Rattle.report.proofs.lines.put_extracts.Statement.{statement}
 use Rattle.report.proofs.lines.put_extracts.Tie as tie
-use Rattle.report.proofs.lines.put_extracts.Reads as reads
-use Rattle.report.proofs.lines.put_extracts.Lts as lts
-use Rattle.report.proofs.lines.put_extract.Reads as put-extract-reads
 
 abbrev Inv-loop : tie.InvT-loop
 Inv-loop page₀ at names extracts end₀ i₀ page end i =

@@ -1,3 +1,4 @@
+-- `report::lines::put_name` meets its contract. Assumes nothing.
 use mathlib.Core.Path.{_≡_, refl, _∙_}
 use mathlib.Core.List.{List, []}
 use Prim.Native.Nat.{ℕ, _-_, _≤_}
@@ -11,10 +12,6 @@ use Rattle.report.proofs.NamesListed.{name-more, name-ends, name-full}
 use borrow.Author.Needs.{needs}
 use Rattle.report.proofs.lines.put_name.Statement.{statement}
 use Rattle.report.proofs.lines.put_name.Tie as tie
-use Rattle.report.proofs.lines.put_name.Reads as reads
-use Rattle.report.proofs.lines.put_name.Lts as lts
-use Rattle.naming.proofs.signs.byte.Reads as byte-reads
-use Rattle.writing.proofs.put_byte.Reads as put-byte-reads
 
 abbrev Inv-loop : tie.InvT-loop
 Inv-loop page₀ at names column from end₀ i₀ page end i =

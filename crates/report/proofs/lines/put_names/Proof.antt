@@ -7,11 +7,6 @@ use Rattle.report.proofs.NamesListed.{Listed, listed-none, listed-next,
 use borrow.Author.Needs.{needs}
 use Rattle.report.proofs.lines.put_names.Statement.{statement}
 use Rattle.report.proofs.lines.put_names.Tie as tie
-use Rattle.report.proofs.lines.put_names.Reads as reads
-use Rattle.report.proofs.lines.put_names.Lts as lts
-use Rattle.columns.proofs.ColumnSet.has.Reads as has-reads
-use Rattle.report.proofs.lines.put_comma.Reads as put-comma-reads
-use Rattle.report.proofs.lines.put_name.Reads as put-name-reads
 
 abbrev Inv-loop : tie.InvT-loop
 Inv-loop page₀ at names set extract end₀ first₀ column₀ page end first column = Listed names set end₀ page₀ first column end page

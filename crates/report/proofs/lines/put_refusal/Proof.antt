@@ -1,13 +1,10 @@
+-- `report::lines::put_refusal` meets its contract. Assumes nothing.
 use Rattle.rules.specs.Words.{bytes, line}
 use Rattle.rules.specs.Pages.{page}
 use Rattle.writing.proofs.Adding.{adds-both}
 use borrow.Author.Needs.{needs}
 use Rattle.report.proofs.lines.put_refusal.Statement.{statement}
 use Rattle.report.proofs.lines.put_refusal.Tie as tie
-use Rattle.report.proofs.lines.put_refusal.Reads as reads
-use Rattle.report.proofs.lines.put_refusal.Lts as lts
-use Rattle.report.proofs.lines.put_count.Reads as put-count-reads
-use Rattle.writing.proofs.put.Reads as put-reads
 
 slice-aggregate-put : tie.Need-slice-aggregate-put
 slice-aggregate-put c = search needs

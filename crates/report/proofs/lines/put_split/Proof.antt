@@ -5,11 +5,6 @@ use Rattle.writing.proofs.Adding.{adds-both}
 use borrow.Author.Needs.{needs}
 use Rattle.report.proofs.lines.put_split.Statement.{statement}
 use Rattle.report.proofs.lines.put_split.Tie as tie
-use Rattle.report.proofs.lines.put_split.Reads as reads
-use Rattle.report.proofs.lines.put_split.Lts as lts
-use Rattle.report.proofs.lines.put_count.Reads as put-count-reads
-use Rattle.report.proofs.lines.put_extracts.Reads as put-extracts-reads
-use Rattle.writing.proofs.put.Reads as put-reads
 
 slice-aggregate-put : tie.Need-slice-aggregate-put
 slice-aggregate-put c = search needs
