@@ -3,3 +3,4 @@ pub mod Filling
 pub mod NamesListed
 pub mod Printing
 pub mod Answers
+pub mod Promises
