@@ -1,7 +1,7 @@
 -- What the promise of the call says: one outcome for each input, which refusal comes when, and what the page then holds. Assumes nothing.
 use mathlib.Core.Path.{_≡_, refl, sym, ap, subst, _∙_}
 use mathlib.Core.Bool.{true, false}
-use mathlib.Core.List.{List, map}
+use mathlib.Core.List.{List}
 use mathlib.Core.Logic.{_⊎_, inl, inr, _↔_}
 use mathlib.Core.Option.{none, some, Option·some-injective}
 use Prim.Native.Nat.{ℕ, _≤_, _<_}
@@ -11,7 +11,6 @@ use lib.Dec.{eqb, ltb}
 use lib.ListN.{length, take, drop, replicate}
 use borrow.Author.Tests.{ne-eqb, lt-ltb, le-ltb}
 use Rattle.rules.specs.Lists.{written}
-use Rattle.rules.specs.Jobs.{Job}
 use Rattle.rules.specs.Numbers.{jobOf}
 use Rattle.rules.specs.Splits.{correct}
 use Rattle.rules.specs.Plans.{Planned as IsPlanned, plan}
@@ -19,7 +18,7 @@ use Rattle.rules.specs.Refusals.{sliceTooShort, noCorrectSplit}
 use Rattle.rules.specs.Plannings.{planRoom}
 use Rattle.rules.specs.Demands.{AsksNoMore}
 use Rattle.rules.specs.Texts.{Sheet, OfForm}
-use Rattle.rules.specs.Sheets.{sheetFault, needIn, numbersOf, namesOf}
+use Rattle.rules.specs.Sheets.{sheetFault, numbersOf, namesOf, jobIn}
 use Rattle.rules.specs.SheetFaults.{IsRight}
 use Rattle.rules.specs.Readings.{mostBytes, Reading, refused as notRead, taken, Reads, of-form}
 use Rattle.rules.specs.Pages.{Outcome, refused, released as releasedWith, plannedWith, outcomeOf, page, mostPageBytes}
@@ -60,15 +59,6 @@ pub record TextJob (s : List ℕ) : Type 0 where
   pub short : length s ≤ mostBytes
   pub form : OfForm s sheet
   pub right : IsRight sheet
-
--- the job of what a text says
-abbrev pub jobIn : Sheet → Job
-jobIn sheet =
-    record {
-      columns = length (sheet .columns);
-      forbidden = numbersOf sheet .forbidden;
-      needs = map (λ l. needIn (sheet .columns) (l .value)) (sheet .needs);
-    }
 
 module _ {s : List ℕ} (t : TextJob s) where
   faultless : sheetFault (t .sheet) ≡ none

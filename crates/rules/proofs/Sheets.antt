@@ -19,7 +19,7 @@ use Rattle.rules.specs.Texts.{Line, Lines, no-line, one-line, Sheet, OfF
 use Rattle.rules.specs.Refusals.{nameUnknown}
 use Rattle.rules.specs.Sheets.{nameAfter, lineAfter, needsOver, firstOver, columnOf, standsIn, firstNameFault}
 use Rattle.rules.specs.Sheets.{columnFault, needFault, forbidFault, linesFault, namesFault, endFault, sheetFault}
-use Rattle.rules.specs.Sheets.{columnIn, setWith, needIn, marksIn, numbersOf}
+use Rattle.rules.specs.Sheets.{columnIn, setWith, marksIn, numbersOf, jobIn}
 use Rattle.rules.proofs.Lists.{and-parts, and-both, or-none}
 use Rattle.rules.proofs.Searches.{else-none}
 use Rattle.rules.proofs.Numbers.{clauses-fit}
@@ -234,12 +234,7 @@ sheet-fit s sheet form e =
 
 -- and mean what the text says
 pub sheet-job : (s : List ℕ) (sheet : Sheet) → OfForm s sheet → sheetFault sheet ≡ none
-    → jobOf (numbersOf sheet)
-    ≡ some (record {
-      columns = length (sheet .columns);
-      forbidden = numbersOf sheet .forbidden;
-      needs = map (λ l. needIn (sheet .columns) (l .value)) (sheet .needs);
-    })
+    → jobOf (numbersOf sheet) ≡ some (jobIn sheet)
 unfolding jobOf numbersOf
 sheet-job s sheet form e =
     let few = counts s sheet form e .fewColumns in

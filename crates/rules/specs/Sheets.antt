@@ -10,6 +10,7 @@ use Rattle.rules.specs.Lists.{anyOf, firstWhere, firstOf}
 use Rattle.rules.specs.Sets.{mostColumns, empty, union}
 use Rattle.rules.specs.Needs.{Need, column, both, either}
 use Rattle.rules.specs.Marks.{andMark, orMark, endMark}
+use Rattle.rules.specs.Jobs.{Job}
 use Rattle.rules.specs.Numbers.{Numbers, mostForbidden, mostNeeds, mostColumnMarks}
 use Rattle.rules.specs.Refusals.{tooMany, nameTwice, nameUnknown, endNumberOther}
 use Rattle.rules.specs.Names.{Spot, sameName}
@@ -128,6 +129,15 @@ numbersOf sheet =
       columns = length (sheet .columns);
       forbidden = map (λ l. setWith (sheet .columns) empty (l .value)) (sheet .forbids);
       marks = marksOf (sheet .columns) (sheet .needs);
+    }
+
+-- the job that a text says
+abbrev pub jobIn : Sheet → Job
+jobIn sheet =
+    record {
+      columns = length (sheet .columns);
+      forbidden = map (λ l. setWith (sheet .columns) empty (l .value)) (sheet .forbids);
+      needs = map (λ l. needIn (sheet .columns) (l .value)) (sheet .needs);
     }
 
 -- the names of its columns

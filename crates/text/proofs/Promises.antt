@@ -2,7 +2,7 @@
 -- gives. Assumes nothing.
 use mathlib.Core.Path.{_≡_, sym, ap, _∙_}
 use mathlib.Core.Bool.{false}
-use mathlib.Core.List.{List, [], map}
+use mathlib.Core.List.{List, []}
 use mathlib.Core.Logic.{_⊎_, inl, inr, _↔_}
 use mathlib.Core.Option.{none, some}
 use Prim.Native.Nat.{ℕ, _≤_, _<_}
@@ -12,7 +12,7 @@ use lib.ListN.{length}
 use Rattle.rules.specs.Numbers.{Numbers, unfit, jobOf}
 use Rattle.rules.specs.Refusals.{textTooLong, textNotOfForm}
 use Rattle.rules.specs.Texts.{Sheet, OfForm, HasForm, StopsAt}
-use Rattle.rules.specs.Sheets.{sheetFault, needIn, numbersOf, namesOf}
+use Rattle.rules.specs.Sheets.{sheetFault, numbersOf, namesOf, jobIn}
 use Rattle.rules.specs.SheetFaults.{IsRight}
 use Rattle.rules.specs.Readings.{mostBytes, Reading, refused, taken, readingOf, Reads, too-long, not-of-form, of-form}
 use Rattle.rules.proofs.Sheets.{sheet-fit, sheet-job}
@@ -47,12 +47,7 @@ pub record Taken (s : List ℕ) (r : JobRead) : Type 0 where
   pub place : r .place ≡ 0
   pub numbers : numbersIn (r .job) ≡ numbersOf sheet
   pub fit : unfit (numbersIn (r .job)) ≡ false
-  pub job : jobOf (numbersIn (r .job))
-      ≡ some (record {
-        columns = length (sheet .columns);
-        forbidden = numbersOf sheet .forbidden;
-        needs = map (λ l. needIn (sheet .columns) (l .value)) (sheet .needs);
-      })
+  pub job : jobOf (numbersIn (r .job)) ≡ some (jobIn sheet)
   pub names : r .names ≡ nameTable (namesOf sheet)
 
 through : {A B C : Type 0} → A ↔ B → B ↔ C → A ↔ C
