@@ -4,6 +4,7 @@ use naming::signs::LINE_END;
 use naming::signs::digit;
 use naming::signs::in_name;
 use naming::signs::letter;
+use naming::words::MOST_NAME_BYTES;
 ghost use mathlib.Core.Path.{_≡_};
 ghost use Prim.Native.Nat.{_<_};
 ghost use lib.ListN.{length};
@@ -18,9 +19,6 @@ const FORBID: usize = 1;
 const NEED: usize = 2;
 
 const END: usize = 3;
-
-// "Names 1 to 12 bytes."
-const MOST_NAME_BYTES: usize = 12;
 
 // "Brackets nested at most 8."
 const MOST_BRACKETS: usize = 8;

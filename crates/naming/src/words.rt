@@ -12,6 +12,9 @@ ghost use Rattle.rules.specs.Names.{Spot, spot, Run, sameName};
 ghost use Rattle.rules.specs.Sheets.{standsIn};
 ghost use Rattle.naming.specs.Words.{Skips, Ends, Between};
 
+// "Names 1 to 12 bytes."
+pub const MOST_NAME_BYTES: usize = 12;
+
 // The place behind the letters and digits from a place on.
 pub fn name_end(text: &[u8], at: usize) -> usize
     ensures { λ r. ⌜ Run (now (text .entry)) at r ⌝ }

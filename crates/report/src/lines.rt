@@ -1,6 +1,7 @@
 // The lines of a page, each put behind those before it.
 use columns::ColumnSet;
 use naming::signs::byte;
+use naming::words::MOST_NAME_BYTES;
 use writing::put;
 use writing::put_byte;
 use writing::put_number;
@@ -14,18 +15,15 @@ ghost use Rattle.rules.specs.Pages.{refused, released, joined, namesAt, extract
 ghost use Rattle.writing.specs.Added.{Adds};
 ghost use Rattle.report.specs.Naming.{Named, parted};
 
-// "Names 1 to 12 bytes." So many stand in the table for each column.
-const NAME_BYTES: usize = 12;
-
 // The name of a column, which ends at the first 0 of its row.
 fn put_name(page: &mut [u8], at: usize, names: &[u8], column: u16) -> usize
     ensures { λ r. ⌜ ((columns : List (List ℕ)) → Named (now (names .entry)) columns
         → Adds (getD columns column []) at (now (page .entry)) r (now (page .exit))) ⌝ }
 {
-    let from = NAME_BYTES * column as usize;
+    let from = MOST_NAME_BYTES * column as usize;
     let mut end = at;
     let mut i = 0;
-    while i < NAME_BYTES {
+    while i < MOST_NAME_BYTES {
         let sign = byte(names, from + i);
         if sign == 0 {
             return end;

@@ -3,6 +3,7 @@ use columns::ColumnSet;
 use naming::known::COLUMNS_FROM;
 use naming::signs::byte;
 use naming::signs::in_name;
+use naming::words::MOST_NAME_BYTES;
 use naming::words::name_end;
 use naming::words::next_name;
 ghost use mathlib.Core.Path.{_≡_};
@@ -16,9 +17,7 @@ ghost use Rattle.rules.specs.Names.{Spot, Run, mostNameBytes};
 ghost use Rattle.naming.specs.Words.{Words, columnsFrom};
 ghost use Rattle.text.specs.Tables.{Tabled};
 
-// "Names 1 to 12 bytes." Those of 16 columns are 192.
-const NAME_BYTES: usize = 12;
-
+// The names of 16 columns.
 pub const NAMES: usize = 192;
 
 // How many columns there are, and their names. Every place without a byte is 0.
@@ -34,7 +33,7 @@ fn put_name(names: &mut [u8], from: usize, text: &[u8], at: usize)
         → now (names .exit) ≡ take from (now (names .entry)) ++ written (piece (now (text .entry)) at p) (drop from (now (names .entry)))) ⌝ }
 {
     let mut i = 0;
-    while i < NAME_BYTES {
+    while i < MOST_NAME_BYTES {
         let sign = byte(text, at + i);
         if !in_name(sign) {
             return;
@@ -56,7 +55,7 @@ pub fn name_table(text: &[u8]) -> Table
         if !in_name(byte(text, place)) {
             return Table { columns, names };
         }
-        put_name(&mut names, NAME_BYTES * columns, text, place);
+        put_name(&mut names, MOST_NAME_BYTES * columns, text, place);
         columns += 1;
         place = next_name(text, name_end(text, place));
     }
