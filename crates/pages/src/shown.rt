@@ -8,7 +8,7 @@ use worked::print;
 // What stands in a slice before the call.
 const OLD: u8 = b'~';
 
-// More places than a page needs.
+// More places than a page needs, and enough for every sentence.
 const PLACES: usize = 310;
 
 pub fn show(case: &[u8], text: &[u8]) {
@@ -27,7 +27,7 @@ pub fn rooms() {
     let mut page = [OLD; MOST_PAGE_BYTES];
     show_page(b"columns=a\nneed=a\nend=1\n", &mut page);
     print::text(b"one place less\n");
-    let mut short = [OLD; 295];
+    let mut short = [OLD; MOST_PAGE_BYTES - 1];
     show_page(b"columns=a\nneed=a\nend=1\n", &mut short);
 }
 
@@ -50,7 +50,7 @@ fn show_numbers(reported: Reported) {
 }
 
 fn show_sentence(text: &[u8], reported: Reported) {
-    let mut sentence = [OLD; 256];
+    let mut sentence = [OLD; PLACES];
     let length = advise(text, reported.refusal, reported.place, &mut sentence);
     print::text(&sentence[..length]);
 }

@@ -7,11 +7,12 @@ use libc::STDOUT_FILENO;
 use report::MOST_PAGE_BYTES;
 use report::Reported;
 use report::report;
+use text::MOST_BYTES;
 
 // One byte more than a text may have tells that it is too long, so no more is read.
-const MOST_READ: usize = 8193;
+const MOST_READ: usize = MOST_BYTES + 1;
 
-// No sentence is longer.
+// Enough for every sentence; of a longer one the end would be missing.
 const MOST_SENTENCE: usize = 256;
 
 fn main() {
