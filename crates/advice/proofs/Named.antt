@@ -1,47 +1,20 @@
 -- The letters and digits before a place of a text and from a place on. Assumes nothing.
-use mathlib.Core.Path.{_≡_, sym, ap, _∙_}
+use mathlib.Core.Path.{_≡_, ap}
 use mathlib.Core.Bool.{true, false}
 use mathlib.Core.List.{List, [], _∷_}
 use Prim.Native.Nat.{ℕ, zero, suc, _+_, _-_, _≤_, _<_}
 use native.Mathlib.Decide.{decLt}
 use native.Mathlib.Omega.{arith}
-use lib.ListN.{length, getD, take, drop, length-take, length-drop, drop-of-length-le}
-use lib.Seq.{getD-take, getD-drop, drop-cons}
+use lib.ListN.{length, take, drop, drop-of-length-le}
+use lib.Seq.{drop-cons}
 use borrow.Author.Tests.{le-leb, lt-leb}
-use Rattle.rules.specs.Lists.{every}
 use Rattle.rules.specs.Signs.{byteAt, piece, inName}
 use Rattle.rules.specs.Names.{mostNameBytes, Run}
-use Rattle.rules.proofs.Lists.{every-in, getD-in, not-holds, holds-fails}
-use Rattle.rules.proofs.ListTests.{every-places}
 use Rattle.rules.proofs.Signs.{named-inside}
 use Rattle.advice.specs.Sentences.{nameFull, beginning, nameAt}
+use Rattle.advice.proofs.Pieces.{piece-all, piece-other}
 
 -- ---- as many as a name may have
-
--- the byte at a place of a piece
-piece-byte : (s : List ℕ) (p q i : ℕ) → p ≤ i → i < q → getD (piece s p q) (i - p) 0 ≡ byteAt s i
-piece-byte s p q i l h =
-    let e : p + (i - p) ≡ i = omega arith in
-    getD-take (q - p) (drop p s) (i - p) 0 (omega arith) ∙ getD-drop p s (i - p) 0 ∙ ap (byteAt s) e
-
-piece-length : (s : List ℕ) (p q : ℕ) → q ≤ length s → length (piece s p q) ≡ q - p
-piece-length s p q h = length-take (q - p) (drop p s) ∙ rw (length-drop p s) (omega arith)
-
--- bytes of a piece that are all in names
-piece-all : (s : List ℕ) (p q : ℕ) → q ≤ length s → ((i : ℕ) → p ≤ i → i < q → inName (byteAt s i) ≡ true) → every inName (piece s p q) ≡ true
-piece-all s p q within f =
-    every-places inName (piece s p q) 0 λ i h.
-    let here : p + i < q = omega (arith, piece-length s p q within) in
-    let back : p + i - p ≡ i = omega arith in
-    let same = piece-byte s p q (p + i) (omega arith) here in
-    ap inName (rw back at same) ∙ f (p + i) (omega arith) here
-
--- one that is in no name
-piece-other : (s : List ℕ) (p q i : ℕ) → q ≤ length s → p ≤ i → i < q → inName (byteAt s i) ≡ false → every inName (piece s p q) ≡ false
-piece-other s p q i within l h e =
-    let here : i - p < length (piece s p q) = omega (arith, piece-length s p q within) in
-    not-holds (every inName (piece s p q)) λ f.
-    holds-fails (inName (byteAt s i)) (ap inName (sym (piece-byte s p q i l h)) ∙ every-in inName f (getD-in (piece s p q) (i - p) 0 here)) e
 
 module _ (s : List ℕ) (p : ℕ) where
   -- before a place that has fewer before it there are never so many
@@ -53,12 +26,12 @@ module _ (s : List ℕ) (p : ℕ) where
     -- one byte that is in no name
     pub full-other : (i : ℕ) → p - mostNameBytes ≤ i → i < p → inName (byteAt s i) ≡ false → nameFull s p ≡ false
     unfolding nameFull
-    full-other i l h e = rw (le-leb mostNameBytes p most) (piece-other s (p - mostNameBytes) p i within l h e)
+    full-other i l h e = rw (le-leb mostNameBytes p most) (piece-other inName s (p - mostNameBytes) p within i l h e)
 
     -- bytes that are all in names
     pub full-all : ((i : ℕ) → p - mostNameBytes ≤ i → i < p → inName (byteAt s i) ≡ true) → nameFull s p ≡ true
     unfolding nameFull
-    full-all f = rw (le-leb mostNameBytes p most) (piece-all s (p - mostNameBytes) p within f)
+    full-all f = rw (le-leb mostNameBytes p most) (piece-all inName s (p - mostNameBytes) p within f)
 
 -- ---- the name at a place
 

@@ -1,28 +1,28 @@
 -- What is wrong at a place, by the byte there and those before it. Assumes nothing.
 use mathlib.Core.Path.{_≡_}
-use mathlib.Core.Bool.{true, false, cond}
+use mathlib.Core.Bool.{true, false, not, cond, _||_}
 use mathlib.Core.List.{List}
 use Prim.Native.Nat.{ℕ, _+_, _-_, _≤_, _<_}
 use native.Mathlib.Decide.{ℕ-discrete}
 use native.Mathlib.Omega.{arith}
 use lib.Dec.{eqb}
 use lib.ListN.{length, take}
-use borrow.Author.Tests.{le-leb, lt-leb, eq-eqb, ne-eqb}
+use borrow.Author.Tests.{le-leb, lt-leb, ne-eqb}
 use Rattle.rules.specs.Signs.{byteAt, letter, digit, inName, lineEnd, comma, plus, ampersand, bar, bracketOpen, bracketClose}
 use Rattle.rules.specs.Phrases.{mostBrackets}
 use Rattle.rules.proofs.Lists.{holds-fails, or-neither}
-use Rattle.advice.specs.Sentences.{capital, joining, nameFull, openAfter, wrongSign, wrongAt}
-use Rattle.advice.specs.declared.wrong.Wrong.the-variants.{EndsEarly, CarriageReturn, Blank, EmptyLine, LineEndsEarly, Capital, LineBegins}
-use Rattle.advice.specs.declared.wrong.Wrong.the-variants.{LongName, DeepBracket, DigitFirst, Misplaced, Foreign}
+use Rattle.advice.specs.Sentences.{equals, carriageReturn, blank, tab, capital, joining, inKey, nameFull, openAfter, wrongSign, wrongAt}
+use Rattle.advice.specs.declared.wrong.Wrong.the-variants.{EndsEarly, CarriageReturn, Blank, EmptyLine, LineEndsEarly, Capital}
+use Rattle.advice.specs.declared.wrong.Wrong.the-variants.{Foreign, NoSuchLine, LongName, DeepBracket, DigitFirst, Misplaced}
 
 -- ---- bytes
 
 -- any other byte than these seven
-pub joining-none : (b : ℕ) → (b ≡ 61 → ⊥) → (b ≡ comma → ⊥) → (b ≡ plus → ⊥) → (b ≡ ampersand → ⊥) → (b ≡ bar → ⊥) → (b ≡ bracketOpen → ⊥)
+pub joining-none : (b : ℕ) → (b ≡ equals → ⊥) → (b ≡ comma → ⊥) → (b ≡ plus → ⊥) → (b ≡ ampersand → ⊥) → (b ≡ bar → ⊥) → (b ≡ bracketOpen → ⊥)
     → (b ≡ bracketClose → ⊥) → joining b ≡ false
 unfolding joining
 joining-none b h i j k l m n =
-    rw (ne-eqb b 61 h, ne-eqb b comma i, ne-eqb b plus j, ne-eqb b ampersand k, ne-eqb b bar l, ne-eqb b bracketOpen m, ne-eqb b bracketClose n)
+    rw (ne-eqb b equals h, ne-eqb b comma i, ne-eqb b plus j, ne-eqb b ampersand k, ne-eqb b bar l, ne-eqb b bracketOpen m, ne-eqb b bracketClose n)
 
 -- a byte that is one of two neighbours of which each is one of these
 pub joining-either : (b k : ℕ) → joining k ≡ true → joining (k + 1) ≡ true → k ≤ b → b < k + 2 → joining b ≡ true
@@ -71,30 +71,22 @@ module _ (s : List ℕ) (p : ℕ) where
 
   -- another bracket
   pub wrong-bracket : byteAt s p ≡ bracketOpen → openAfter 0 (take p s) < mostBrackets → Misplaced ≡ wrongSign s p
-  unfolding wrongSign joining
+  unfolding wrongSign
   wrong-bracket e h = rw (e, lt-leb mostBrackets (openAfter 0 (take p s)) h)
 
-  module _ (other : inName (byteAt s p) ≡ false) (no-bracket : byteAt s p ≡ bracketOpen → ⊥) where
-    wrong-unnamed : cond (joining (byteAt s p)) Misplaced Foreign ≡ wrongSign s p
-    unfolding wrongSign
-    wrong-unnamed = rw (other, ne-eqb (byteAt s p) bracketOpen no-bracket, no-name-no-digit (byteAt s p) other)
-
-    -- a sign between names
-    pub wrong-joining : joining (byteAt s p) ≡ true → Misplaced ≡ wrongSign s p
-    wrong-joining e = rw e at wrong-unnamed
-
-    -- a byte that is none of a job text
-    pub wrong-foreign : joining (byteAt s p) ≡ false → Foreign ≡ wrongSign s p
-    wrong-foreign e = rw e at wrong-unnamed
+  -- another sign between names
+  pub wrong-joining : inName (byteAt s p) ≡ false → (byteAt s p ≡ bracketOpen → ⊥) → Misplaced ≡ wrongSign s p
+  unfolding wrongSign
+  wrong-joining other e = rw (other, ne-eqb (byteAt s p) bracketOpen e, no-name-no-digit (byteAt s p) other)
 
 -- ---- anywhere
 
 -- the byte at a place is within the text, and neither a carriage return, a blank nor a line's end
 pub record Plain (s : List ℕ) (p : ℕ) : Type 0 where
   pub inside : p < length s
-  pub noReturn : byteAt s p ≡ 13 → ⊥
-  pub noBlank : byteAt s p ≡ 32 → ⊥
-  pub noTab : byteAt s p ≡ 9 → ⊥
+  pub noReturn : byteAt s p ≡ carriageReturn → ⊥
+  pub noBlank : byteAt s p ≡ blank → ⊥
+  pub noTab : byteAt s p ≡ tab → ⊥
   pub noEnd : byteAt s p ≡ lineEnd → ⊥
 
 module _ (s : List ℕ) (p column : ℕ) where
@@ -105,17 +97,17 @@ module _ (s : List ℕ) (p column : ℕ) where
 
   module _ (inside : p < length s) where
     -- a carriage return
-    pub wrong-return : byteAt s p ≡ 13 → CarriageReturn ≡ wrongAt s p column
+    pub wrong-return : byteAt s p ≡ carriageReturn → CarriageReturn ≡ wrongAt s p column
     unfolding wrongAt
     wrong-return e = rw (lt-leb (length s) p inside, e)
 
     -- a blank
-    pub wrong-blank : byteAt s p ≡ 32 → Blank ≡ wrongAt s p column
+    pub wrong-blank : byteAt s p ≡ blank → Blank ≡ wrongAt s p column
     unfolding wrongAt
     wrong-blank e = rw (lt-leb (length s) p inside, e)
 
     -- a tab
-    pub wrong-tab : byteAt s p ≡ 9 → Blank ≡ wrongAt s p column
+    pub wrong-tab : byteAt s p ≡ tab → Blank ≡ wrongAt s p column
     unfolding wrongAt
     wrong-tab e = rw (lt-leb (length s) p inside, e)
 
@@ -130,14 +122,16 @@ module _ (s : List ℕ) (p column : ℕ) where
     wrong-line-end e f = rw (lt-leb (length s) p inside, e, ne-eqb column 1 f)
 
   module _ (plain : Plain s p) where
-    wrong-plain : cond (capital (byteAt s p)) Capital (cond (eqb column 1) LineBegins (wrongSign s p)) ≡ wrongAt s p column
+    wrong-plain : cond (capital (byteAt s p)) Capital
+        (cond (not (inName (byteAt s p) || joining (byteAt s p))) Foreign (cond (inKey s p column) NoSuchLine (wrongSign s p)))
+        ≡ wrongAt s p column
     unfolding wrongAt
     wrong-plain =
         rw (
           lt-leb (length s) p (plain .inside),
-          ne-eqb (byteAt s p) 13 (plain .noReturn),
-          ne-eqb (byteAt s p) 32 (plain .noBlank),
-          ne-eqb (byteAt s p) 9 (plain .noTab),
+          ne-eqb (byteAt s p) carriageReturn (plain .noReturn),
+          ne-eqb (byteAt s p) blank (plain .noBlank),
+          ne-eqb (byteAt s p) tab (plain .noTab),
           ne-eqb (byteAt s p) lineEnd (plain .noEnd),
         )
 
@@ -145,10 +139,16 @@ module _ (s : List ℕ) (p column : ℕ) where
     pub wrong-capital : capital (byteAt s p) ≡ true → Capital ≡ wrongAt s p column
     wrong-capital e = rw e at wrong-plain
 
-    -- any other byte where a line begins
-    pub wrong-line : capital (byteAt s p) ≡ false → column ≡ 1 → LineBegins ≡ wrongAt s p column
-    wrong-line e f = rw (e, eq-eqb column 1 f) at wrong-plain
+    module _ (small : capital (byteAt s p) ≡ false) where
+      -- a byte that is none of a job text
+      pub wrong-foreign : (inName (byteAt s p) || joining (byteAt s p)) ≡ false → Foreign ≡ wrongAt s p column
+      wrong-foreign e = rw (small, e) at wrong-plain
 
-    -- and elsewhere
-    pub wrong-sign : capital (byteAt s p) ≡ false → (column ≡ 1 → ⊥) → wrongSign s p ≡ wrongAt s p column
-    wrong-sign e f = rw (e, ne-eqb column 1 f) at wrong-plain
+      module _ (own : (inName (byteAt s p) || joining (byteAt s p)) ≡ true) where
+        -- one in the key of its line
+        pub wrong-key : inKey s p column ≡ true → NoSuchLine ≡ wrongAt s p column
+        wrong-key e = rw (small, own, e) at wrong-plain
+
+        -- and elsewhere
+        pub wrong-sign : inKey s p column ≡ false → wrongSign s p ≡ wrongAt s p column
+        wrong-sign e = rw (small, own, e) at wrong-plain

@@ -1,5 +1,6 @@
 // The sentence that a steward gets beside a refusal: where it is, what is wrong there, and what to do.
 use job::refusals::END_NUMBER_OTHER;
+use job::refusals::NO_CORRECT_SPLIT;
 use writing::put;
 
 mod numbers; // numbers.rt: a difference that stops at 0
@@ -15,12 +16,19 @@ ghost use Rattle.advice.specs.Sentences.{sentence};
 pub fn advise(text: &[u8], number: u16, place: usize, page: &mut [u8]) -> usize
     ensures { λ r. ⌜ Holds (sentence (now (text .entry)) number place) (now (page .entry)) r (now (page .exit)) ⌝ }
 {
-    if END_NUMBER_OTHER < number {
+    if number == NO_CORRECT_SPLIT {
         return put(
             page,
             0,
-            b"No split can serve all needs: some need is left over or some extract would contain a forbidden set; ask for less in a need line, or take out a forbid line.\n",
+            b"No split can serve all needs: in every one a need is left over, an extract contains a forbidden set, or a column stands in two extracts; ask for less in a need line.\n",
         );
+    }
+    // no other number but 1 to 6 comes from a text
+    if number == 0 {
+        return 0;
+    }
+    if END_NUMBER_OTHER < number {
+        return 0;
     }
     let position = position::position_of(text, place);
     let end = remedy::put_located(page, 0, position);

@@ -45,7 +45,7 @@ pub fn put_remedy(
         return put(
             page,
             at,
-            b"the text goes on behind 8192 bytes, which are the most; use shorter names, or leave out lines that stand twice.\n",
+            b"the text has more than 8192 bytes; use shorter names, or leave out lines that stand twice.\n",
         );
     }
     if number == TEXT_NOT_OF_FORM {
@@ -60,7 +60,7 @@ pub fn put_remedy(
             at,
             text,
             place,
-            b" stands here for the second time in its line; take it out or write another.\n",
+            b" stands here for the second time in its line; take it out or write the one that was meant.\n",
         );
     }
     if number == NAME_UNKNOWN {
@@ -69,7 +69,7 @@ pub fn put_remedy(
             at,
             text,
             place,
-            b" is no column; correct it, or add it to the line columns=.\n",
+            b" is no column; correct it, or add it to the line columns= if the register has this column.\n",
         );
     }
     put_count(page, at, position.line)
@@ -100,7 +100,7 @@ fn put_name(page: &mut [u8], at: usize, text: &[u8], place: usize) -> usize
 // Puts how many forbid and need lines stand before the end line, which is in this line: all lines before it but the first.
 fn put_count(page: &mut [u8], at: usize, line: usize) -> usize
     ensures { λ r. ⌜ Adds
-        (bytes "the number of forbid and need lines is " ++ (decimal (line - 2) ++ bytes "; write it here, or add the line that is missing.\n"))
+        (bytes "the number of forbid and need lines is " ++ (decimal (line - 2) ++ bytes "; see that no line was lost or added, and then write this number here.\n"))
         at (now (page .entry)) r (now (page .exit)) ⌝ }
 {
     let from = put(page, at, b"the number of forbid and need lines is ");
@@ -108,6 +108,6 @@ fn put_count(page: &mut [u8], at: usize, line: usize) -> usize
     put(
         page,
         to,
-        b"; write it here, or add the line that is missing.\n",
+        b"; see that no line was lost or added, and then write this number here.\n",
     )
 }

@@ -16,54 +16,58 @@ pub fn put_wrong(page: &mut [u8], at: usize, wrong: Wrong) -> usize
         Wrong::EndsEarly => put(
             page,
             at,
-            b"the text ends too early; the last line is end= with the number of forbid and need lines, and a line break behind it.\n",
+            b"the text ends too early; the last line is end= with the number of forbid and need lines, and a line break after it.\n",
         ),
         Wrong::CarriageReturn => put(
             page,
             at,
             b"a carriage return stands here; save the file with Unix line ends, which are LF alone.\n",
         ),
-        Wrong::Blank => put(page, at, b"a blank stands here; take it out.\n"),
+        Wrong::Blank => put(
+            page,
+            at,
+            b"a blank stands here; write the line without blanks, with = after its key and , + & or | between names.\n",
+        ),
         Wrong::EmptyLine => put(page, at, b"the line is empty; take it out.\n"),
         Wrong::LineEndsEarly => put(
             page,
             at,
-            b"the line ends too early; write what is missing.\n",
+            b"the line ends too early; write the name, bracket or number that is missing.\n",
         ),
         Wrong::Capital => put(
             page,
             at,
             b"a capital letter stands here; write keys and names in lowercase.\n",
         ),
-        Wrong::LineBegins => put(
+        Wrong::Foreign => put(
             page,
             at,
-            b"no line can begin like this here; first comes columns=, then every forbid=, then every need=, last end=.\n",
+            b"this sign, which your editor may not show, never stands in a job text; use a to z, 0 to 9 and = , + & | ( ) alone.\n",
+        ),
+        Wrong::NoSuchLine => put(
+            page,
+            at,
+            b"no such line can stand here; first comes columns=, then every forbid=, then every need=, last end=.\n",
         ),
         Wrong::LongName => put(
             page,
             at,
-            b"the name has more than 12 letters and digits; shorten it.\n",
+            b"the name has more than 12 letters and digits; shorten it everywhere in the text.\n",
         ),
         Wrong::DeepBracket => put(
             page,
             at,
-            b"this is the ninth open bracket, and 8 are the most; take out brackets that are not needed.\n",
+            b"this is the 9th open bracket, and 8 are the most; take out brackets that are not needed.\n",
         ),
         Wrong::DigitFirst => put(
             page,
             at,
-            b"no digit can stand here; a name begins with a letter.\n",
+            b"no digit can stand here; begin the name with a letter, or write the sign that joins it.\n",
         ),
         Wrong::Misplaced => put(
             page,
             at,
             b"this sign can't stand here; compare the line with the manual, docs/MANUAL.md.\n",
-        ),
-        Wrong::Foreign => put(
-            page,
-            at,
-            b"this sign never stands in a job text; use a to z, 0 to 9 and = , + & | ( ) alone.\n",
         ),
     }
 }
@@ -82,7 +86,7 @@ pub fn put_too_many(
         return put(
             page,
             at,
-            b"this is the 17th column, and 16 are the most; leave out columns that no office needs.\n",
+            b"this is the 17th column, and 16 are the most; leave out a column that no line names.\n",
         );
     }
     if position.column != 1 {
@@ -96,12 +100,12 @@ pub fn put_too_many(
         return put(
             page,
             at,
-            b"this is the 33rd forbid line, and 32 are the most; leave out those that contain another.\n",
+            b"this is the 33rd forbid line, and 32 are the most; leave out one that has all columns of another.\n",
         );
     }
     put(
         page,
         at,
-        b"this is the 9th need line, and 8 are the most; leave out those that another one covers.\n",
+        b"this is the 9th need line, and 8 are the most; leave out one that is met wherever another is.\n",
     )
 }

@@ -3,13 +3,13 @@ use crate::numbers::less;
 use naming::signs::LINE_END;
 use naming::signs::digit;
 use naming::signs::in_name;
+use naming::words::MOST_NAME_BYTES;
 ghost use mathlib.Core.Path.{_≡_};
+ghost use mathlib.Core.Bool.{_||_};
 ghost use Prim.Native.Nat.{_<_, _≤_};
 ghost use lib.ListN.{length, take};
-ghost use Rattle.advice.specs.Sentences.{capital as capitalByte, joining as joiningByte, nameFull, openAfter, wrongSign, wrongAt};
-
-// "Names 1 to 12 bytes."
-const MOST_NAME_BYTES: usize = 12;
+ghost use Rattle.rules.specs.Signs.{inName};
+ghost use Rattle.advice.specs.Sentences.{capital as capitalByte, joining as joiningByte, inKey, nameFull, openAfter, wrongSign, wrongAt};
 
 // "Brackets nested at most 8."
 const MOST_BRACKETS: usize = 8;
@@ -21,12 +21,12 @@ pub enum Wrong {
     EmptyLine,
     LineEndsEarly,
     Capital,
-    LineBegins,
+    Foreign,
+    NoSuchLine,
     LongName,
     DeepBracket,
     DigitFirst,
     Misplaced,
-    Foreign,
 }
 
 // What is wrong at a place, which is in this column of its line.
@@ -56,13 +56,16 @@ pub fn wrong_at(text: &[u8], place: usize, column: usize) -> Wrong
     if capital(sign) {
         return Wrong::Capital;
     }
-    if column == 1 {
-        return Wrong::LineBegins;
+    if !of_texts(sign) {
+        return Wrong::Foreign;
+    }
+    if in_key(text, place, column) {
+        return Wrong::NoSuchLine;
     }
     wrong_sign(text, place)
 }
 
-// What is wrong at a place where no line begins or ends: a name too long, a bracket too deep, a digit before a name, or another sign.
+// What is wrong at a place after a line's key: a name too long, a bracket too deep, a digit before a name, or another sign.
 fn wrong_sign(text: &[u8], place: usize) -> Wrong
     requires { ⌜ place < length (now text) ⌝ }
     ensures { λ r. ⌜ r ≡ wrongSign (now (text .entry)) place ⌝ }
@@ -75,22 +78,34 @@ fn wrong_sign(text: &[u8], place: usize) -> Wrong
         if !digit(sign) {
             return Wrong::Misplaced;
         }
-        // the first place has none before it, but begins a line
+        // the first place has none before it, but belongs to a key
         if in_name(text[less(place, 1)]) {
             return Wrong::Misplaced;
         }
         return Wrong::DigitFirst;
     }
-    if sign == b'(' {
-        if MOST_BRACKETS <= open_before(text, place) {
-            return Wrong::DeepBracket;
+    if sign != b'(' {
+        return Wrong::Misplaced;
+    }
+    if MOST_BRACKETS <= open_before(text, place) {
+        return Wrong::DeepBracket;
+    }
+    Wrong::Misplaced
+}
+
+// Whether a place in this column of its line has no = before it in the line.
+fn in_key(text: &[u8], place: usize, column: usize) -> bool
+    requires { ⌜ place ≤ length (now text) ⌝ }
+    ensures { λ r. ⌜ r ≡ inKey (now (text .entry)) place column ⌝ }
+{
+    let mut i = less(place, less(column, 1));
+    while i < place {
+        if text[i] == b'=' {
+            return false;
         }
-        return Wrong::Misplaced;
+        i += 1;
     }
-    if joining(sign) {
-        return Wrong::Misplaced;
-    }
-    Wrong::Foreign
+    true
 }
 
 // Whether as many letters and digits stand before a place as a name may have.
@@ -134,6 +149,13 @@ fn capital(sign: u8) -> bool
     ensures { λ r. ⌜ r ≡ capitalByte sign ⌝ }
 {
     b'A' <= sign && sign <= b'Z'
+}
+
+// Whether a byte is one of job texts, and no line's end.
+fn of_texts(sign: u8) -> bool
+    ensures { λ r. ⌜ r ≡ (inName sign || joiningByte sign) ⌝ }
+{
+    in_name(sign) || joining(sign)
 }
 
 // Whether a byte is one of job texts that is neither in a name nor a line's end.

@@ -2,19 +2,34 @@
 use mathlib.Core.Path.{sym, _∙_}
 use mathlib.Core.List.{List}
 use Prim.Native.Nat.{ℕ}
+use borrow.Author.Tests.{not-true, not-false}
 use Rattle.advice.proofs.Wrongs.{wrong-end, wrong-return, wrong-blank, wrong-tab, wrong-empty, wrong-line-end}
-use Rattle.advice.proofs.Wrongs.{Plain, wrong-capital, wrong-line, wrong-sign}
+use Rattle.advice.proofs.Wrongs.{Plain, wrong-capital, wrong-foreign, wrong-key, wrong-sign}
 use borrow.Author.Needs.{needs}
 use Rattle.advice.proofs.wrong.wrong_at.Statement.{statement}
 use Rattle.advice.proofs.wrong.wrong_at.Tie as tie
 use Rattle.advice.proofs.wrong.wrong_at.Reads as reads
 use Rattle.advice.proofs.wrong.wrong_at.Lts as lts
 use Rattle.advice.proofs.wrong.capital.Reads as capital-reads
+use Rattle.advice.proofs.wrong.in_key.Reads as in-key-reads
+use Rattle.advice.proofs.wrong.of_texts.Reads as of-texts-reads
 use Rattle.advice.proofs.wrong.wrong_sign.Reads as wrong-sign-reads
 
 -- where the byte is none of those told first
 abbrev Other : Type 0
-Other = lts.Else5 (capital-reads.Asked, capital-reads.Learnt, wrong-sign-reads.Asked, wrong-sign-reads.Learnt) reads.Pre reads.Post
+Other =
+    lts.Else5 (
+      capital-reads.Asked,
+      capital-reads.Learnt,
+      of-texts-reads.Asked,
+      of-texts-reads.Learnt,
+      in-key-reads.Asked,
+      in-key-reads.Learnt,
+      wrong-sign-reads.Asked,
+      wrong-sign-reads.Learnt,
+    )
+    reads.Pre
+    reads.Post
 
 abbrev text : Other → List ℕ
 text c = c .before .before .before .before .before .before .before .args .text .now
@@ -59,17 +74,37 @@ capital-requires c κs = search needs
 returns-7 : tie.Need-returns-7
 returns-7 c = wrong-capital _ _ _ (plain (c .before .before)) (sym (c .before .capital .ensures) ∙ c .if7 .taken)
 
+of-texts-requires : tie.Need-of-texts-requires
+of-texts-requires c κs = search needs
+
 returns-8 : tie.Need-returns-8
-returns-8 c = wrong-line _ _ _ (plain (c .before .before .before)) (sym (c .before .before .capital .ensures) ∙ c .before .if7 .left) (c .if8 .taken)
+returns-8 c =
+    let test = c .before .before in
+    let small = sym (test .before .capital .ensures) ∙ test .if7 .left in
+    wrong-foreign _ _ _ (plain (test .before .before)) small (sym (c .before .of-texts .ensures) ∙ not-true _ (c .if8 .taken))
+
+in-key-requires : tie.Need-in-key-requires
+in-key-requires c κs = search needs
+
+returns-9 : tie.Need-returns-9
+returns-9 c =
+    let own = c .before .before in
+    let test = own .before .before in
+    let small = sym (test .before .capital .ensures) ∙ test .if7 .left in
+    wrong-key _ _ _ (plain (test .before .before)) small (sym (own .before .of-texts .ensures) ∙ not-false _ (own .if8 .left))
+    (sym (c .before .in-key .ensures) ∙ c .if9 .taken)
 
 wrong-sign-requires : tie.Need-wrong-sign-requires
 wrong-sign-requires c κs = search needs
 
-returns-9 : tie.Need-returns-9
-returns-9 c =
-    let test = c .before .before in
-    let plainly = plain (test .before .before) in
-    c .wrong-sign .ensures ∙ wrong-sign _ _ _ plainly (sym (test .before .capital .ensures) ∙ test .if7 .left) (c .before .if8 .left)
+returns-10 : tie.Need-returns-10
+returns-10 c =
+    let key = c .before in
+    let own = key .before .before in
+    let test = own .before .before in
+    let small = sym (test .before .capital .ensures) ∙ test .if7 .left in
+    let ours = sym (own .before .of-texts .ensures) ∙ not-false _ (own .if8 .left) in
+    c .wrong-sign .ensures ∙ wrong-sign _ _ _ (plain (test .before .before)) small ours (sym (key .before .in-key .ensures) ∙ key .if9 .left)
 
 pub wrong-at-spec : {M : Type 1} → statement M
 wrong-at-spec =
@@ -84,6 +119,9 @@ wrong-at-spec =
     returns-6
     capital-requires
     returns-7
+    of-texts-requires
     returns-8
+    in-key-requires
+    returns-9
     wrong-sign-requires
-    returns-9)
+    returns-10)

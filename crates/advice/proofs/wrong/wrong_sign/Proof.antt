@@ -1,7 +1,7 @@
 -- `advice::wrong::wrong_sign` meets its contract. Assumes nothing.
 use mathlib.Core.Path.{sym, _∙_}
 use borrow.Author.Tests.{not-true, not-false}
-use Rattle.advice.proofs.Wrongs.{wrong-long, wrong-letter, wrong-later, wrong-first, wrong-deep, wrong-bracket, wrong-joining, wrong-foreign}
+use Rattle.advice.proofs.Wrongs.{wrong-long, wrong-letter, wrong-later, wrong-first, wrong-joining, wrong-deep, wrong-bracket}
 use borrow.Author.Needs.{needs}
 use Rattle.advice.proofs.wrong.wrong_sign.Statement.{statement}
 use Rattle.advice.proofs.wrong.wrong_sign.Tie as tie
@@ -60,29 +60,17 @@ returns-4 c =
     (sym (digits .digit .ensures) ∙ not-false _ (last .before .if3 .left))
     (rw (sym (last .less .ensures)) (sym (c .before .in-name2 .ensures) ∙ c .if4 .left))
 
+returns-5 : tie.Need-returns-5
+returns-5 c = wrong-joining _ _ (sym (c .before .before .in-name .ensures) ∙ c .before .if1 .left) (c .if5 .taken)
+
 open-before-requires : tie.Need-open-before-requires
 open-before-requires c κs = search needs
 
-returns-5 : tie.Need-returns-5
-returns-5 c = wrong-deep _ _ (c .before .before .if5 .taken) (rw (c .before .open-before .ensures) at (c .if6 .taken))
-
 returns-6 : tie.Need-returns-6
-returns-6 c = wrong-bracket _ _ (c .before .before .if5 .taken) (rw (c .before .open-before .ensures) at (c .if6 .left))
-
-joining-requires : tie.Need-joining-requires
-joining-requires c κs = search needs
+returns-6 c = wrong-deep _ _ (c .before .before .if5 .left) (rw (c .before .open-before .ensures) at (c .if6 .taken))
 
 returns-7 : tie.Need-returns-7
-returns-7 c =
-    let test = c .before .before .before in
-    wrong-joining _ _ (sym (test .before .in-name .ensures) ∙ test .if1 .left) (c .before .before .if5 .left)
-    (sym (c .before .joining .ensures) ∙ c .if7 .taken)
-
-returns-8 : tie.Need-returns-8
-returns-8 c =
-    let test = c .before .before .before in
-    wrong-foreign _ _ (sym (test .before .in-name .ensures) ∙ test .if1 .left) (c .before .before .if5 .left)
-    (sym (c .before .joining .ensures) ∙ c .if7 .left)
+returns-7 c = wrong-bracket _ _ (c .before .before .if5 .left) (rw (c .before .open-before .ensures) at (c .if6 .left))
 
 pub wrong-sign-spec : {M : Type 1} → statement M
 wrong-sign-spec =
@@ -99,9 +87,7 @@ wrong-sign-spec =
     in-name-requires-2
     returns-3
     returns-4
-    open-before-requires
     returns-5
+    open-before-requires
     returns-6
-    joining-requires
-    returns-7
-    returns-8)
+    returns-7)
