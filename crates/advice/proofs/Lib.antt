@@ -5,4 +5,6 @@ pub mod Located
 pub mod Named
 pub mod Opened
 pub mod Pieces
+pub mod Promises
+pub mod Spots
 pub mod Wrongs
