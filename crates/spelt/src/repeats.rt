@@ -1,16 +1,14 @@
 // Bytes put behind those of a text, once or often. Where a text is full, nothing is put.
+use writing::put_byte;
 ghost use Prim.Native.Nat.{_≤_};
 ghost use lib.ListN.{length as lengthOf};
 
+// One byte; all that the spelling needs to know of it is that it stays within the text.
 pub fn put(text: &mut [u8], length: usize, sign: u8) -> usize
     requires { ⌜ length ≤ lengthOf (now text) ⌝ }
     ensures { λ r. ⌜ r ≤ lengthOf (now (text .entry)) ⌝ }
 {
-    if text.len() <= length {
-        return length;
-    }
-    text[length] = sign;
-    length + 1
+    put_byte(text, length, sign)
 }
 
 // The bytes of a text from a place on, put behind it until they stand so many times.

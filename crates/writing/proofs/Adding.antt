@@ -5,9 +5,9 @@ use Prim.Native.Nat.{ℕ, _+_, _≤_, _<_}
 use native.Mathlib.Numerals.{add-one}
 use native.Mathlib.Omega.{arith}
 use lib.ListN.{length, getD, set, take, length-append}
-use lib.Seq.{take-append-seam, take-suc, take-all}
+use lib.Seq.{length-take-le, take-append-seam, take-suc, take-all}
 use Rattle.rules.specs.Lists.{written}
-use Rattle.rules.proofs.Written.{length-written, written-last, written-full}
+use Rattle.rules.proofs.Written.{length-written, written-last, written-full, written-back}
 use Rattle.writing.specs.Added.{Holds, Adds}
 
 -- a page holds an empty text before its first place
@@ -22,6 +22,13 @@ holds-added {more} {page} a = a [] page (holds-nothing page)
 -- the next place lies within the page, or is its end
 pub holds-within : {text old page : List ℕ} {next : ℕ} → Holds text old next page → next ≤ length page
 holds-within {text} {old} h = omega (arith, h .place, ap length (h .held) ∙ length-written text old)
+
+-- from a place of the page or its end one comes to another
+pub adds-within : {more page new : List ℕ} {next after : ℕ} → Adds more next page after new → next ≤ length page → after ≤ length page
+adds-within {page} {next} a h =
+    let front : Holds (take next page) page next page
+    = record { place = omega (arith, length-take-le next page h); held = written-back next page page refl refl } in
+    omega (arith, a (take next page) page front .place)
 
 -- nothing is added
 pub adds-nothing : (next : ℕ) (page : List ℕ) → Adds [] next page next page
