@@ -3,7 +3,7 @@ use columns::ColumnSet;
 use fitness::Counted;
 use fitness::Found;
 
-mod copies; // copies.rt: numbers written over the first places of a slice
+pub mod copies; // copies.rt: numbers written over the first places of a slice
 pub mod fitness; // fitness.rt: which numbers are unfit
 pub mod refusals; // refusals.rt: the numbers of the refusals
 pub mod rows; // rows.rt: the needs laid out for evaluation

@@ -12,7 +12,7 @@ use job::refusals::TEXT_NOT_OF_FORM;
 use job::refusals::TEXT_TOO_LONG;
 use table::NAMES;
 
-mod table; // table.rt: the names of the columns
+pub mod table; // table.rt: the names of the columns
 mod sets; // sets.rt: the forbidden sets
 mod needs; // needs.rt: the marks of the needs
 

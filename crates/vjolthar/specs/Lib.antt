@@ -1,0 +1,3 @@
+-- What the numbers and slices of the C interface say, in reading order.
+pub mod Verdicts
+pub mod Handed
