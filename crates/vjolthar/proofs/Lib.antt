@@ -1,2 +1,3 @@
 -- Laws of the C interface.
 pub mod Handing
+pub mod Promises

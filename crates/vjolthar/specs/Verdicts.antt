@@ -5,7 +5,7 @@ use Prim.Native.Nat.{ℕ}
 use Rattle.rules.specs.Numbers.{Numbers}
 use Rattle.rules.specs.Refusals.{numbersUnfit}
 use Rattle.rules.specs.Verdicts.{Verdict, unfitJob, improper, forbids, shares, unmet, right, judged}
-use Rattle.vjolthar.specs.declared.Told.{Told}
+use Rattle.vjolthar.specs.declared.verdicts.Told.{Told}
 
 -- the refusal, the kind of the fault, counted from 1 in the order of 01's sentence, and its values; what an answer lacks is 0
 abbrev pub toldOf : Verdict → Told

@@ -3,31 +3,18 @@
 use job::MOST_FORBIDDEN;
 use job::MOST_MARKS;
 use job::copies;
-use job::refusals::NUMBERS_UNFIT;
 use job::refusals::SLICE_TOO_SHORT;
-use judge::Verdict;
-use text::JobRead;
 use text::table::NAMES;
-ghost use mathlib.Core.Path.{_≡_};
+
+mod verdicts; // verdicts.rt: the judge's answer as numbers
+
 ghost use Rattle.growing.specs.Slices.{nodeSlices};
 ghost use Rattle.diagram.specs.Slices.{pathSlices};
 ghost use Rattle.diagram.specs.Promises.{Draws, Lists};
-ghost use Rattle.judge.specs.Answers.{verdictOf};
 ghost use Rattle.planner.specs.Promises.{Plans};
 ghost use Rattle.report.specs.Promises.{Reports};
-ghost use Rattle.vjolthar.specs.Verdicts.{toldOf, Tells};
+ghost use Rattle.vjolthar.specs.Verdicts.{Tells};
 ghost use Rattle.vjolthar.specs.Handed.{Hands};
-
-// The kinds of a fault, counted from 1 in the order of 01's sentence.
-const RIGHT: u16 = 0;
-
-const IMPROPER: u16 = 1;
-
-const FORBIDS: u16 = 2;
-
-const SHARES: u16 = 3;
-
-const UNMET: u16 = 4;
 
 // `text::read`. The job that was read is written over the first 32, 512 and 192 places of the slices, its unused places too.
 #[no_mangle]
@@ -148,44 +135,6 @@ pub extern "C" fn vjolthar_one_paths(
     listed.refusal
 }
 
-// The judge's answer as numbers. What an answer lacks is 0.
-struct Told {
-    refusal: u16,
-    fault: u16,
-    first: usize,
-    second: usize,
-}
-
-// A fault's kind and values.
-fn at_fault(fault: u16, first: usize, second: usize) -> Told
-    ensures { λ r. ⌜ r ≡ record { refusal = 0; fault = fault; first = first; second = second } ⌝ }
-{
-    Told {
-        refusal: 0,
-        fault,
-        first,
-        second,
-    }
-}
-
-fn numbers_of(verdict: Verdict) -> Told
-    ensures { λ r. ⌜ r ≡ toldOf (verdictOf verdict) ⌝ }
-{
-    match verdict {
-        Verdict::Unfit => Told {
-            refusal: NUMBERS_UNFIT,
-            fault: 0,
-            first: 0,
-            second: 0,
-        },
-        Verdict::Improper(i) => at_fault(IMPROPER, i, 0),
-        Verdict::Forbids(i, j) => at_fault(FORBIDS, i, j),
-        Verdict::Shares(i, j) => at_fault(SHARES, i, j),
-        Verdict::Unmet(k) => at_fault(UNMET, k, 0),
-        Verdict::Right => at_fault(RIGHT, 0, 0),
-    }
-}
-
 // `judge::judge`. The fault is 0 for right, 1 for an extract that is empty or names a missing column, 2 for a forbidden set contained, 3 for a column shared,
 // 4 for a need that is not met; `first` and `second` are its values.
 #[no_mangle]
@@ -201,7 +150,7 @@ pub extern "C" fn vjolthar_judge(
     ensures { λ r. ⌜ Tells (record { columns = columns; forbidden = now (forbidden .entry); marks = now (marks .entry) }) (now (split .entry))
         (record { refusal = r; fault = now (fault .exit); first = now (first .exit); second = now (second .exit) }) ⌝ }
 {
-    let told = numbers_of(judge::judge(columns, forbidden, marks, split));
+    let told = verdicts::numbers_of(judge::judge(columns, forbidden, marks, split));
     *fault = told.fault;
     *first = told.first;
     *second = told.second;

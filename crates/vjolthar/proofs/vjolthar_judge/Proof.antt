@@ -4,10 +4,6 @@ use Rattle.vjolthar.specs.Verdicts.{toldOf}
 use borrow.Author.Needs.{needs}
 use Rattle.vjolthar.proofs.vjolthar_judge.Statement.{statement}
 use Rattle.vjolthar.proofs.vjolthar_judge.Tie as tie
-use Rattle.vjolthar.proofs.vjolthar_judge.Reads as reads
-use Rattle.vjolthar.proofs.vjolthar_judge.Lts as lts
-use Rattle.judge.proofs.judge.Reads as judge-reads
-use Rattle.vjolthar.proofs.numbers_of.Reads as numbers-of-reads
 
 judge-requires : tie.Need-judge-requires
 judge-requires c κs = search needs

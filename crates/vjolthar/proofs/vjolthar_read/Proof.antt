@@ -2,15 +2,10 @@
 use mathlib.Core.Path.{sym}
 use Rattle.writing.proofs.Adding.{holds-added}
 use Rattle.vjolthar.specs.Handed.{notHanded, numbersOf}
-use Rattle.vjolthar.proofs.Handing.{marks-places, forbidden-short, marks-short, names-short, hands-read}
+use Rattle.vjolthar.proofs.Handing.{filled, forbidden-short, marks-short, names-short, hands-read}
 use borrow.Author.Needs.{needs}
 use Rattle.vjolthar.proofs.vjolthar_read.Statement.{statement}
 use Rattle.vjolthar.proofs.vjolthar_read.Tie as tie
-use Rattle.vjolthar.proofs.vjolthar_read.Reads as reads
-use Rattle.vjolthar.proofs.vjolthar_read.Lts as lts
-use Rattle.job.proofs.copies.write.Reads as write-reads
-use Rattle.text.proofs.read.Reads as read-reads
-use Rattle.writing.proofs.put.Reads as put-reads
 
 returns : tie.Need-returns
 unfolding notHanded
@@ -34,7 +29,7 @@ write-requires : tie.Need-write-requires
 write-requires c κs = search needs
 
 slice-aggregate-write-2 : tie.Need-slice-aggregate-write-2
-slice-aggregate-write-2 c = sym (marks-places (c .before .before .before .before .before .before .before .before .before .before .before .read .ensures))
+slice-aggregate-write-2 c = sym (filled (c .before .before .before .before .before .before .before .before .before .before .before .read .ensures) .marks)
 
 write-requires-2 : tie.Need-write-requires-2
 write-requires-2 c κs = search needs

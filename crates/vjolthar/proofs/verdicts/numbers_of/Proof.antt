@@ -1,11 +1,8 @@
--- `vjolthar::numbers_of` meets its contract. Assumes nothing.
+-- `vjolthar::verdicts::numbers_of` meets its contract. Assumes nothing.
 use mathlib.Core.Path.{refl}
 use borrow.Author.Needs.{needs}
-use Rattle.vjolthar.proofs.numbers_of.Statement.{statement}
-use Rattle.vjolthar.proofs.numbers_of.Tie as tie
-use Rattle.vjolthar.proofs.numbers_of.Reads as reads
-use Rattle.vjolthar.proofs.numbers_of.Lts as lts
-use Rattle.vjolthar.proofs.at_fault.Reads as at-fault-reads
+use Rattle.vjolthar.proofs.verdicts.numbers_of.Statement.{statement}
+use Rattle.vjolthar.proofs.verdicts.numbers_of.Tie as tie
 
 enum-told : tie.Need-enum-told
 enum-told c = search needs
