@@ -1,0 +1,81 @@
+//! The diagram beside BuDDy, on every need of a family's jobs and on "no need".
+
+use crate::buddy;
+use crate::clock;
+use crate::job::Job;
+use crate::library::Lent;
+use crate::spread::{number, Spread};
+use crate::table::table;
+
+const REPEATS: usize = 9;
+
+const HEAD: [&str; 8] = [
+    "Jobs",
+    "Diagrams",
+    "Inner nodes",
+    "Ours, microseconds",
+    "BuDDy fresh / ours",
+    "BuDDy with set-up / ours",
+    "BuDDy reused / ours",
+    "Repeats",
+];
+
+/// One diagram, measured: the medians over the repeats.
+struct Duel {
+    nodes: f64,
+    ours: f64,
+    fresh: f64,
+    whole: f64,
+    reused: f64,
+    /// Highest by lowest of the ratios "fresh" over the repeats.
+    factor: f64,
+}
+
+/// A row for each list of jobs.
+pub fn drawings(lists: &[(String, Vec<Job>)], lent: &mut Lent) {
+    let row = |(name, jobs): &(String, Vec<Job>)| {
+        let mut duels = Vec::new();
+        for job in jobs {
+            duels.extend((0..=job.numbers.needs).map(|chosen| duel(job, chosen, lent)));
+        }
+        let all = |figure: fn(&Duel) -> f64| Spread::new(duels.iter().map(figure));
+        vec![
+            name.clone(),
+            duels.len().to_string(),
+            all(|duel| duel.nodes).shown(),
+            all(|duel| duel.ours * 1e6).shown(),
+            all(|duel| duel.fresh).shown(),
+            all(|duel| duel.whole).shown(),
+            all(|duel| duel.reused).shown(),
+            number(all(|duel| duel.factor).median().value),
+        ]
+    };
+    let rows: Vec<_> = lists.iter().map(row).collect();
+    table(&HEAD, &rows);
+}
+
+fn duel(job: &Job, chosen: usize, lent: &mut Lent) -> Duel {
+    let nodes = lent.diagram(&job.numbers, chosen) as usize;
+    let (mut ours, mut fresh, mut whole, mut reused) = (vec![], vec![], vec![], vec![]);
+    for _ in 0..REPEATS {
+        let seconds = clock::timed(|| {
+            lent.diagram(&job.numbers, chosen);
+        });
+        let built = buddy::built(&job.numbers, chosen);
+        agree(job, chosen, nodes, built.nodes);
+        ours.push(seconds);
+        fresh.push(built.fresh / seconds);
+        whole.push(built.whole / seconds);
+        reused.push(buddy::reused(&job.numbers, chosen) / seconds);
+    }
+    let median = |values| Spread::new(values).median().value;
+    let factor = Spread::new(fresh.clone()).factor();
+    Duel { nodes: nodes as f64, ours: median(ours), fresh: median(fresh), whole: median(whole), reused: median(reused), factor }
+}
+
+fn agree(job: &Job, chosen: usize, ours: usize, theirs: usize) {
+    if ours != theirs {
+        eprintln!("bench: BuDDy disagrees on need {chosen} of job {}: {theirs} nodes, ours {ours}\n{}", job.name, job.text);
+        std::process::exit(1);
+    }
+}

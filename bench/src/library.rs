@@ -1,0 +1,186 @@
+//! The measured library: its C interface, called in this process, with every slice lent once.
+
+use std::os::raw::c_ushort;
+
+pub const MOST_FORBIDDEN: usize = 32;
+pub const MOST_MARKS: usize = 512;
+pub const MOST_NAMES: usize = 192;
+pub const MOST_EXTRACTS: usize = 8;
+pub const MOST_NODES: usize = 8445;
+pub const MOST_PATHS: usize = 32768;
+
+/// The refusal of a job that has no correct split.
+pub const NO_CORRECT_SPLIT: u16 = 9;
+
+extern "C" {
+    #[rustfmt::skip]
+    fn vjolthar_read(
+        text: *const u8, text_count: usize,
+        forbidden: *mut u16, forbidden_count: usize,
+        marks: *mut u16, marks_count: usize,
+        names: *mut u8, names_count: usize,
+        place: *mut usize, columns: *mut usize, sets: *mut usize, needs: *mut usize, marked: *mut usize,
+    ) -> c_ushort;
+
+    #[rustfmt::skip]
+    fn vjolthar_diagram(
+        columns: usize,
+        forbidden: *const u16, forbidden_count: usize,
+        marks: *const u16, marks_count: usize,
+        chosen: usize,
+        column: *mut u16, column_count: usize,
+        low: *mut u16, low_count: usize,
+        high: *mut u16, high_count: usize,
+        root: *mut u16, count: *mut u16,
+    ) -> c_ushort;
+
+    #[rustfmt::skip]
+    fn vjolthar_one_paths(
+        columns: usize,
+        forbidden: *const u16, forbidden_count: usize,
+        marks: *const u16, marks_count: usize,
+        chosen: usize,
+        column: *mut u16, column_count: usize,
+        low: *mut u16, low_count: usize,
+        high: *mut u16, high_count: usize,
+        ones: *mut u16, ones_count: usize,
+        zeros: *mut u16, zeros_count: usize,
+        root: *mut u16, count: *mut u16, paths: *mut u16,
+    ) -> c_ushort;
+
+    #[rustfmt::skip]
+    fn vjolthar_plan(
+        columns: usize,
+        forbidden: *const u16, forbidden_count: usize,
+        marks: *const u16, marks_count: usize,
+        extracts: *mut u16, extracts_count: usize,
+        count: *mut u16,
+    ) -> c_ushort;
+}
+
+/// A job as numbers.
+#[derive(Clone, PartialEq, Debug)]
+pub struct Numbers {
+    pub columns: usize,
+    pub forbidden: Vec<u16>,
+    pub marks: Vec<u16>,
+    pub needs: usize,
+}
+
+/// What the reader answers, all but the slices that it fills.
+#[derive(Clone, Copy, Default)]
+pub struct Read {
+    pub refusal: u16,
+    pub place: usize,
+    pub columns: usize,
+    pub sets: usize,
+    pub needs: usize,
+    pub marked: usize,
+}
+
+/// The slices that the calls are lent.
+pub struct Lent {
+    pub forbidden: [u16; MOST_FORBIDDEN],
+    pub marks: [u16; MOST_MARKS],
+    pub names: [u8; MOST_NAMES],
+    pub extracts: [u16; MOST_EXTRACTS],
+    column: Vec<u16>,
+    low: Vec<u16>,
+    high: Vec<u16>,
+    ones: Vec<u16>,
+    zeros: Vec<u16>,
+}
+
+impl Lent {
+    pub fn new() -> Lent {
+        Lent {
+            forbidden: [0; MOST_FORBIDDEN],
+            marks: [0; MOST_MARKS],
+            names: [0; MOST_NAMES],
+            extracts: [0; MOST_EXTRACTS],
+            column: vec![0; MOST_NODES],
+            low: vec![0; MOST_NODES],
+            high: vec![0; MOST_NODES],
+            ones: vec![0; MOST_PATHS],
+            zeros: vec![0; MOST_PATHS],
+        }
+    }
+
+    pub fn read(&mut self, text: &[u8]) -> Read {
+        let mut read = Read::default();
+        // SAFETY: each pointer goes with the length of its own slice, and the numbers live through the call.
+        #[rustfmt::skip]
+        let refusal = unsafe {
+            vjolthar_read(
+                text.as_ptr(), text.len(),
+                self.forbidden.as_mut_ptr(), self.forbidden.len(),
+                self.marks.as_mut_ptr(), self.marks.len(),
+                self.names.as_mut_ptr(), self.names.len(),
+                &mut read.place, &mut read.columns, &mut read.sets, &mut read.needs, &mut read.marked,
+            )
+        };
+        read.refusal = refusal;
+        read
+    }
+
+    /// The refusal's number and how many extracts there are.
+    pub fn plan(&mut self, job: &Numbers) -> (u16, u16) {
+        let mut count = 0;
+        // SAFETY: as in `read`.
+        #[rustfmt::skip]
+        let refusal = unsafe {
+            vjolthar_plan(
+                job.columns,
+                job.forbidden.as_ptr(), job.forbidden.len(),
+                job.marks.as_ptr(), job.marks.len(),
+                self.extracts.as_mut_ptr(), self.extracts.len(),
+                &mut count,
+            )
+        };
+        (refusal, count)
+    }
+
+    /// The number of inner nodes.
+    pub fn diagram(&mut self, job: &Numbers, chosen: usize) -> u16 {
+        let (mut root, mut count) = (0, 0);
+        // SAFETY: as in `read`.
+        #[rustfmt::skip]
+        let refusal = unsafe {
+            vjolthar_diagram(
+                job.columns,
+                job.forbidden.as_ptr(), job.forbidden.len(),
+                job.marks.as_ptr(), job.marks.len(),
+                chosen,
+                self.column.as_mut_ptr(), self.column.len(),
+                self.low.as_mut_ptr(), self.low.len(),
+                self.high.as_mut_ptr(), self.high.len(),
+                &mut root, &mut count,
+            )
+        };
+        assert_eq!(refusal, 0, "the diagram is refused");
+        count
+    }
+
+    /// The number of one-paths.
+    pub fn one_paths(&mut self, job: &Numbers, chosen: usize) -> u16 {
+        let (mut root, mut count, mut paths) = (0, 0, 0);
+        // SAFETY: as in `read`.
+        #[rustfmt::skip]
+        let refusal = unsafe {
+            vjolthar_one_paths(
+                job.columns,
+                job.forbidden.as_ptr(), job.forbidden.len(),
+                job.marks.as_ptr(), job.marks.len(),
+                chosen,
+                self.column.as_mut_ptr(), self.column.len(),
+                self.low.as_mut_ptr(), self.low.len(),
+                self.high.as_mut_ptr(), self.high.len(),
+                self.ones.as_mut_ptr(), self.ones.len(),
+                self.zeros.as_mut_ptr(), self.zeros.len(),
+                &mut root, &mut count, &mut paths,
+            )
+        };
+        assert_eq!(refusal, 0, "the one-paths are refused");
+        paths
+    }
+}

@@ -1,0 +1,22 @@
+//! Tables in markdown on standard output, and words on the way on standard error.
+
+/// Prints a heading and a sentence or two.
+pub fn section(heading: &str, words: &str) {
+    println!("## {heading}\n\n{words}\n");
+    progress(heading);
+}
+
+/// Prints a table: the first column is words, the others are figures.
+pub fn table(head: &[&str], rows: &[Vec<String>]) {
+    println!("| {} |", head.join(" | "));
+    println!("|---|{}", "---:|".repeat(head.len() - 1));
+    for row in rows {
+        assert_eq!(row.len(), head.len(), "a row has a cell for each column");
+        println!("| {} |", row.join(" | "));
+    }
+    println!();
+}
+
+pub fn progress(words: &str) {
+    eprintln!("bench: {words}");
+}
