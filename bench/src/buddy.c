@@ -5,10 +5,10 @@
 
 enum { BOTH = 16, EITHER = 17, MOST_OPERANDS = 33 };
 
-/* Fresh nodes and caches. The sizes are those that BuDDy's manual gives for small examples; more makes the start slower, less the work. */
-void buddy_open(int columns)
+/* Fresh nodes and caches of these sizes. */
+void buddy_open(int columns, int nodes, int cache)
 {
-    bdd_init(10000, 1000);
+    bdd_init(nodes, cache);
     bdd_gbc_hook(NULL);
     bdd_setmaxincrease(100000);
     bdd_setvarnum(columns);
@@ -54,11 +54,13 @@ static BDD missing(uint16_t set)
     return some;
 }
 
+/* The forbidden sets first and the need last: on these jobs the faster of the two orders. */
 BDD buddy_build(const uint16_t *forbidden, size_t sets, const uint16_t *marks, size_t count)
 {
-    BDD condition = needed(marks, count);
+    BDD condition = bddtrue;
     for (size_t i = 0; i < sets; i++)
         join(&condition, missing(forbidden[i]), bddop_and);
+    join(&condition, needed(marks, count), bddop_and);
     return condition;
 }
 

@@ -31,14 +31,25 @@ used(E) :- serves(_,E).
 /// The least program: what it takes is the start of the process.
 const LEAST: &str = "a.\n";
 
+/// The options that were fastest on these jobs. With clasp's defaults, branch and bound, the hardest ones take it far longer.
+const OPTIONS: [&str; 2] = ["--opt-strategy=usc", "--configuration=crafty"];
+
 pub fn installed() -> bool {
-    let version = Command::new("clingo").arg("--version").stdout(Stdio::null()).stderr(Stdio::null()).status();
+    let version = Command::new("clingo")
+        .arg("--version")
+        .stdout(Stdio::null())
+        .stderr(Stdio::null())
+        .status();
     version.is_ok_and(|status| status.success())
 }
 
 pub fn program(job: &Job) -> String {
     let needs = job.needs();
-    let mut program = format!("#const columns={}.\n#const needs={}.\n{RULES}", job.numbers.columns, needs.len());
+    let mut program = format!(
+        "#const columns={}.\n#const needs={}.\n{RULES}",
+        job.numbers.columns,
+        needs.len()
+    );
     for set in job.forbidden() {
         let inside: Vec<String> = set.iter().map(|column| format!("in({column},E)")).collect();
         writeln!(program, ":- extract(E), {}.", inside.join(", ")).expect("a string grows");
@@ -61,10 +72,16 @@ fn part(program: &mut String, need: usize, formula: &Formula, parts: &mut usize)
     let bodies = match formula {
         Formula::Column(column) => vec![format!("in({column},E)")],
         Formula::Both(inner) => {
-            let atoms: Vec<String> = inner.iter().map(|one| part(program, need, one, parts)).collect();
+            let atoms: Vec<String> = inner
+                .iter()
+                .map(|one| part(program, need, one, parts))
+                .collect();
             vec![atoms.join(", ")]
         }
-        Formula::Either(inner) => inner.iter().map(|one| part(program, need, one, parts)).collect(),
+        Formula::Either(inner) => inner
+            .iter()
+            .map(|one| part(program, need, one, parts))
+            .collect(),
     };
     for body in bodies {
         writeln!(program, "{atom} :- extract(E), {body}.").expect("a string grows");
@@ -79,20 +96,33 @@ pub fn start_up() -> f64 {
 
 pub fn plan(program: &str, limit: u32) -> Run {
     let (seconds, page) = process(program, limit);
-    Run { seconds, answer: answered(&page) }
+    Run {
+        seconds,
+        answer: answered(&page),
+    }
 }
 
 fn process(program: &str, limit: u32) -> (f64, String) {
     let mut command = Command::new("clingo");
-    command.args(["--quiet=2,1", &format!("--time-limit={limit}")]).args(OPTIONS);
-    let child = command.stdin(Stdio::piped()).stdout(Stdio::piped()).stderr(Stdio::null()).spawn();
+    command
+        .args(["--quiet=2,1", &format!("--time-limit={limit}")])
+        .args(OPTIONS);
+    let child = command
+        .stdin(Stdio::piped())
+        .stdout(Stdio::piped())
+        .stderr(Stdio::null())
+        .spawn();
     let mut child = child.expect("clingo starts");
     let mut input = child.stdin.take().expect("clingo is given an input");
-    input.write_all(program.as_bytes()).expect("clingo takes its program");
+    input
+        .write_all(program.as_bytes())
+        .expect("clingo takes its program");
     drop(input);
     let mut page = String::new();
     let mut output = child.stdout.take().expect("clingo is given an output");
-    output.read_to_string(&mut page).expect("clingo writes text");
+    output
+        .read_to_string(&mut page)
+        .expect("clingo writes text");
     (clock::ended(child.id()), page)
 }
 
@@ -102,14 +132,23 @@ fn answered(page: &str) -> Option<Answer> {
         return Some(Answer::Impossible);
     }
     if !page.contains("OPTIMUM FOUND") {
-        assert!(page.contains("TIME LIMIT"), "clingo answers otherwise than known:\n{page}");
+        assert!(
+            page.contains("TIME LIMIT"),
+            "clingo answers otherwise than known:\n{page}"
+        );
         return None;
     }
-    let line = page.lines().rfind(|line| line.starts_with("Optimization :")).expect("clingo names its optimum");
-    let mut numbers = line.split_whitespace().skip(2).map(|word| word.parse().expect("a number"));
+    let line = page
+        .lines()
+        .rfind(|line| line.starts_with("Optimization :"))
+        .expect("clingo names its optimum");
+    let mut numbers = line
+        .split_whitespace()
+        .skip(2)
+        .map(|word| word.parse().expect("a number"));
     let mut next = || numbers.next().expect("two numbers");
-    Some(Answer::Split { extracts: next(), columns: next() })
+    Some(Answer::Split {
+        extracts: next(),
+        columns: next(),
+    })
 }
-
-/// The strategy that was fastest on these families, of branch and bound (clasp's default) and of unsatisfiable cores.
-const OPTIONS: [&str; 0] = [];

@@ -25,7 +25,10 @@ extern "C" {
 
 /// The seconds that this process has used.
 pub fn now() -> f64 {
-    let mut time = Time { seconds: 0, nanoseconds: 0 };
+    let mut time = Time {
+        seconds: 0,
+        nanoseconds: 0,
+    };
     // SAFETY: the time lives through the call.
     let failed = unsafe { clock_gettime(PROCESS_TIME, &mut time) };
     assert_eq!(failed, 0, "the clock of the process cannot be read");
@@ -35,7 +38,11 @@ pub fn now() -> f64 {
 /// Waits for a child that nobody else waits for, and answers the seconds that it has used from its start to its end.
 pub fn ended(child: u32) -> f64 {
     let mut status = 0;
-    let mut usage = Usage { user: [0; 2], system: [0; 2], counts: [0; 14] };
+    let mut usage = Usage {
+        user: [0; 2],
+        system: [0; 2],
+        counts: [0; 14],
+    };
     // SAFETY: both answers live through the call, and `Usage` has the layout of the C library's.
     let waited = unsafe { wait4(child as c_int, &mut status, 0, &mut usage) };
     assert_eq!(waited, child as c_int, "a child process is lost");

@@ -4,8 +4,8 @@ use crate::buddy;
 use crate::clock;
 use crate::job::Job;
 use crate::library::Lent;
-use crate::spread::{number, Spread};
-use crate::table::table;
+use crate::spread::{counts, number, Spread};
+use crate::table::{table, REPEATED};
 
 const REPEATS: usize = 9;
 
@@ -16,17 +16,17 @@ const HEAD: [&str; 8] = [
     "Ours, microseconds",
     "BuDDy fresh / ours",
     "BuDDy with set-up / ours",
-    "BuDDy reused / ours",
-    "Repeats",
+    "BuDDy again / ours",
+    REPEATED,
 ];
 
 /// One diagram, measured: the medians over the repeats.
 struct Duel {
-    nodes: f64,
+    nodes: usize,
     ours: f64,
     fresh: f64,
     whole: f64,
-    reused: f64,
+    again: f64,
     /// Highest by lowest of the ratios "fresh" over the repeats.
     factor: f64,
 }
@@ -42,11 +42,11 @@ pub fn drawings(lists: &[(String, Vec<Job>)], lent: &mut Lent) {
         vec![
             name.clone(),
             duels.len().to_string(),
-            all(|duel| duel.nodes).shown(),
+            counts(&duels.iter().map(|duel| duel.nodes).collect::<Vec<_>>()),
             all(|duel| duel.ours * 1e6).shown(),
             all(|duel| duel.fresh).shown(),
             all(|duel| duel.whole).shown(),
-            all(|duel| duel.reused).shown(),
+            all(|duel| duel.again).shown(),
             number(all(|duel| duel.factor).median().value),
         ]
     };
@@ -56,7 +56,7 @@ pub fn drawings(lists: &[(String, Vec<Job>)], lent: &mut Lent) {
 
 fn duel(job: &Job, chosen: usize, lent: &mut Lent) -> Duel {
     let nodes = lent.diagram(&job.numbers, chosen) as usize;
-    let (mut ours, mut fresh, mut whole, mut reused) = (vec![], vec![], vec![], vec![]);
+    let (mut ours, mut fresh, mut whole, mut again) = (vec![], vec![], vec![], vec![]);
     for _ in 0..REPEATS {
         let seconds = clock::timed(|| {
             lent.diagram(&job.numbers, chosen);
@@ -66,16 +66,26 @@ fn duel(job: &Job, chosen: usize, lent: &mut Lent) -> Duel {
         ours.push(seconds);
         fresh.push(built.fresh / seconds);
         whole.push(built.whole / seconds);
-        reused.push(buddy::reused(&job.numbers, chosen) / seconds);
+        again.push(buddy::again(&job.numbers, chosen) / seconds);
     }
     let median = |values| Spread::new(values).median().value;
     let factor = Spread::new(fresh.clone()).factor();
-    Duel { nodes: nodes as f64, ours: median(ours), fresh: median(fresh), whole: median(whole), reused: median(reused), factor }
+    Duel {
+        nodes,
+        ours: median(ours),
+        fresh: median(fresh),
+        whole: median(whole),
+        again: median(again),
+        factor,
+    }
 }
 
 fn agree(job: &Job, chosen: usize, ours: usize, theirs: usize) {
     if ours != theirs {
-        eprintln!("bench: BuDDy disagrees on need {chosen} of job {}: {theirs} nodes, ours {ours}\n{}", job.name, job.text);
+        eprintln!(
+            "bench: BuDDy disagrees on need {chosen} of job {}: {theirs} nodes, ours {ours}\n{}",
+            job.name, job.text
+        );
         std::process::exit(1);
     }
 }

@@ -19,8 +19,8 @@ pub struct Family {
     marks: Range,
     /// Of a hundred joins, how many are "and".
     both: usize,
-    /// Whether jobs without a correct split stay in; 001 leaves them out.
-    impossible: bool,
+    /// Which of the jobs drawn are kept.
+    kept: fn(&Job, &mut Lent) -> bool,
     seed: u64,
 }
 
@@ -35,7 +35,7 @@ pub fn thesis(n: usize) -> Family {
         needs: (2, 8),
         marks: (2, 4),
         both: 50,
-        impossible: false,
+        kept: possible,
         seed: 1000 + n as u64,
     }
 }
@@ -50,22 +50,22 @@ pub fn dense() -> Family {
         needs: (8, 8),
         marks: (8, 24),
         both: 40,
-        impossible: false,
+        kept: possible,
         seed: 2016,
     }
 }
 
-/// Small forbidden sets against needs that mostly ask for several columns, so that about half of the jobs have no correct split.
+/// Small forbidden sets against needs that mostly ask for several columns: each need can be met by itself, but many of the jobs have no correct split.
 pub fn mixed() -> Family {
     Family {
         name: "mixed",
         n: 16,
-        forbidden: (12, 32),
+        forbidden: (20, 32),
         together: (2, 3),
-        needs: (4, 8),
-        marks: (3, 6),
+        needs: (6, 8),
+        marks: (4, 12),
         both: 60,
-        impossible: true,
+        kept: each_alone,
         seed: 3016,
     }
 }
@@ -80,7 +80,7 @@ pub fn growing(n: usize) -> Family {
         needs: (4, 4),
         marks: (2, 4),
         both: 50,
-        impossible: false,
+        kept: possible,
         seed: 4000 + n as u64,
     }
 }
@@ -95,7 +95,7 @@ impl Family {
             let Some(job) = Job::from_text(&name, &self.draw(&mut random)) else {
                 continue;
             };
-            if self.impossible || job.answer(&mut lent) != Answer::Impossible {
+            if (self.kept)(&job, &mut lent) {
                 jobs.push(job);
             }
         }
@@ -118,6 +118,16 @@ impl Family {
             .collect();
         text(&names, &forbidden, &needs)
     }
+}
+
+/// 001 leaves out the jobs without a correct split.
+fn possible(job: &Job, lent: &mut Lent) -> bool {
+    job.answer(lent) != Answer::Impossible
+}
+
+/// Each need can be met if it is the only one, so that a job can be impossible only by all of them together.
+fn each_alone(job: &Job, lent: &mut Lent) -> bool {
+    (0..job.numbers.needs).all(|need| possible(&job.with_need(need), lent))
 }
 
 fn drawn(random: &mut Random, range: Range) -> usize {

@@ -29,11 +29,16 @@ pub fn growth(count: usize, lent: &mut Lent) {
     let mut before: Option<Vec<f64>> = None;
     for n in (4..=16).step_by(2) {
         let jobs = families::growing(n).jobs(count);
-        let spreads: Vec<Spread> = CALLS.iter().map(|(_, call)| over_jobs(&jobs, *call, lent)).collect();
+        let spreads: Vec<Spread> = CALLS
+            .iter()
+            .map(|(_, call)| over_jobs(&jobs, *call, lent))
+            .collect();
         let mut row = vec![n.to_string()];
         for (place, spread) in spreads.iter().enumerate() {
             row.push(spread.shown());
-            let factor = before.as_ref().map(|medians| spread.median().value / medians[place]);
+            let factor = before
+                .as_ref()
+                .map(|medians| spread.median().value / medians[place]);
             row.push(factor.map_or(String::new(), number));
         }
         rows.push(row);

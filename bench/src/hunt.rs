@@ -12,6 +12,12 @@ use crate::random::Random;
 const N: usize = 16;
 const MOST_NEEDS: usize = 8;
 const MOST_FORBIDDEN: usize = 32;
+/// So many random jobs are tried before the best of them is changed.
+const STARTS: usize = 100;
+/// A change is kept if the time falls to no less than this part: that leads out of small dead ends.
+const LOSS: f64 = 0.93;
+/// A job that takes as many seconds is hard enough.
+const LIMIT: f64 = 20.0;
 
 /// A job that can be changed.
 #[derive(Clone)]
@@ -21,15 +27,22 @@ struct Draft {
 }
 
 impl Draft {
-    /// Some columns must lie apart, so that there are several extracts; beside this, random sets and needs.
+    /// Some columns must lie apart, and each of them has a need of its own that asks for others too: so there are several extracts and many ways to fill
+    /// them. The other needs ask only for columns that may lie anywhere.
     fn new(random: &mut Random) -> Draft {
-        let apart = random.between(2, 6);
+        let apart = random.between(3, 7);
         let mut forbidden = Vec::new();
         for first in 0..apart {
             forbidden.extend((0..first).map(|second| vec![first, second]));
         }
-        forbidden.extend((0..random.between(1, 12)).map(|_| set(random)));
-        let needs = (0..random.between(5, MOST_NEEDS)).map(|_| long_need(random)).collect();
+        forbidden.extend((0..random.between(1, 4)).map(|_| set(random)));
+        let owned = (0..apart).map(|own| vec![Formula::Column(own)]);
+        let free = (apart..MOST_NEEDS).map(|_| vec![or_list(apart, random)]);
+        let starts: Vec<_> = owned.chain(free).collect();
+        let needs = starts
+            .into_iter()
+            .map(|start| long_need(start, apart, random))
+            .collect();
         Draft { forbidden, needs }
     }
 
@@ -38,12 +51,11 @@ impl Draft {
         for _ in 0..random.between(1, 3) {
             let forbidden = random.below(draft.forbidden.len());
             let place = random.below(draft.needs.len());
-            match random.below(8) {
+            match random.below(9) {
                 0 if draft.forbidden.len() < MOST_FORBIDDEN => draft.forbidden.push(set(random)),
                 1 if draft.forbidden.len() > 1 => drop(draft.forbidden.remove(forbidden)),
                 2 => draft.forbidden[forbidden] = set(random),
-                3 if draft.needs.len() < MOST_NEEDS => draft.needs.push(long_need(random)),
-                4 => draft.needs[place] = long_need(random),
+                3 => draft.needs[place] = need(random, N, 12, 40),
                 _ => change(&mut draft.needs[place], random),
             }
         }
@@ -61,19 +73,36 @@ fn set(random: &mut Random) -> Vec<usize> {
     random.columns(N, size)
 }
 
-fn long_need(random: &mut Random) -> Formula {
-    let marks = random.between(4, 32);
-    let both = random.between(10, 60);
-    need(random, N, marks, both)
+/// An or-list of columns from this one on.
+fn or_list(first: usize, random: &mut Random) -> Formula {
+    let count = random.between(3, N - first);
+    let columns = random.columns(N - first, count);
+    Formula::Either(
+        columns
+            .into_iter()
+            .map(|column| Formula::Column(first + column))
+            .collect(),
+    )
 }
 
-/// Changes one column somewhere in a need.
+/// A need that asks for this start and for one or two or-lists of columns from the first one on.
+fn long_need(start: Vec<Formula>, first: usize, random: &mut Random) -> Formula {
+    let mut parts = start;
+    parts.extend((0..random.between(1, 2)).map(|_| or_list(first, random)));
+    Formula::Both(parts)
+}
+
+/// Changes a need at one place: another column, one part more or one less.
 fn change(formula: &mut Formula, random: &mut Random) {
     match formula {
         Formula::Column(column) => *column = random.below(N),
         Formula::Both(parts) | Formula::Either(parts) => {
             let part = random.below(parts.len());
-            change(&mut parts[part], random);
+            match random.below(6) {
+                0 => parts.push(Formula::Column(random.below(N))),
+                1 if parts.len() > 2 => drop(parts.remove(part)),
+                _ => change(&mut parts[part], random),
+            }
         }
     }
 }
@@ -82,28 +111,39 @@ fn change(formula: &mut Formula, random: &mut Random) {
 pub fn hunt(seconds: u64, seed: u64, peer: Option<&Peer>, lent: &mut Lent) {
     let mut random = Random::new(seed);
     let start = Instant::now();
-    let mut best: Option<(f64, Draft)> = None;
-    while start.elapsed().as_secs() < seconds {
-        let draft = match &best {
-            Some((_, draft)) => draft.changed(&mut random),
-            None => Draft::new(&mut random),
+    let mut best = (0.0, Draft::new(&mut random));
+    let mut current = best.clone();
+    let mut tries = 0;
+    while start.elapsed().as_secs() < seconds && best.0 < LIMIT {
+        tries += 1;
+        let starting = tries < STARTS;
+        let draft = if starting {
+            Draft::new(&mut random)
+        } else {
+            current.1.changed(&mut random)
         };
         let Some(job) = draft.job() else {
             continue;
         };
-        let taken = cost(&job, peer, lent);
-        if best.as_ref().is_none_or(|(most, _)| taken >= *most) {
+        // Measured again if it seems to take longer: a single call may have been disturbed.
+        let mut taken = cost(&job, peer, lent);
+        if taken > best.0 {
+            taken = taken.min(cost(&job, peer, lent));
+        }
+        if taken > best.0 {
             eprintln!("bench: {taken:.6} s after {} s", start.elapsed().as_secs());
-            best = Some((taken, draft));
+            best = (taken, draft.clone());
+        }
+        if taken >= current.0 * if starting { 1.0 } else { LOSS } {
+            current = (taken, draft);
         }
     }
-    let job = best.and_then(|(_, draft)| draft.job()).expect("some job is kept");
-    print!("{}", job.text);
+    print!("{}", best.1.job().expect("a job that was read before").text);
 }
 
 fn cost(job: &Job, peer: Option<&Peer>, lent: &mut Lent) -> f64 {
     match peer {
-        Some(peer) => (peer.plan)(&(peer.program)(job), 20).seconds,
+        Some(peer) => (peer.plan)(&(peer.program)(job), LIMIT as u32).seconds,
         None => {
             let start = clock::now();
             lent.plan(&job.numbers);

@@ -41,13 +41,37 @@ impl Job {
             marks: lent.marks[..read.marked].to_vec(),
             needs: read.needs,
         };
-        Some(Job { name: name.to_string(), text: text.to_string(), numbers })
+        Some(Job {
+            name: name.to_string(),
+            text: text.to_string(),
+            numbers,
+        })
     }
 
     /// The needs as formulas.
     pub fn needs(&self) -> Vec<Formula> {
         let rows = self.numbers.marks.split(|mark| *mark == END);
         rows.filter(|row| !row.is_empty()).map(formula).collect()
+    }
+
+    /// The job with this need alone.
+    pub fn with_need(&self, need: usize) -> Job {
+        let row = self
+            .numbers
+            .marks
+            .split_inclusive(|mark| *mark == END)
+            .nth(need)
+            .expect("one of the needs");
+        let numbers = Numbers {
+            marks: row.to_vec(),
+            needs: 1,
+            ..self.numbers.clone()
+        };
+        Job {
+            name: self.name.clone(),
+            text: self.text.clone(),
+            numbers,
+        }
     }
 
     /// The columns of each forbidden set.
@@ -64,8 +88,14 @@ impl Job {
         }
         assert_eq!(refusal, 0, "job {} is refused:\n{}", self.name, self.text);
         let extracts = &lent.extracts[..count as usize];
-        let columns = extracts.iter().map(|extract| extract.count_ones() as usize).sum();
-        Answer::Split { extracts: extracts.len(), columns }
+        let columns = extracts
+            .iter()
+            .map(|extract| extract.count_ones() as usize)
+            .sum();
+        Answer::Split {
+            extracts: extracts.len(),
+            columns,
+        }
     }
 }
 

@@ -15,45 +15,71 @@ pub const NO_CORRECT_SPLIT: u16 = 9;
 extern "C" {
     #[rustfmt::skip]
     fn vjolthar_read(
-        text: *const u8, text_count: usize,
-        forbidden: *mut u16, forbidden_count: usize,
-        marks: *mut u16, marks_count: usize,
-        names: *mut u8, names_count: usize,
-        place: *mut usize, columns: *mut usize, sets: *mut usize, needs: *mut usize, marked: *mut usize,
+        text: *const u8,
+        text_count: usize,
+        forbidden: *mut u16,
+        forbidden_count: usize,
+        marks: *mut u16,
+        marks_count: usize,
+        names: *mut u8,
+        names_count: usize,
+        place: *mut usize,
+        columns: *mut usize,
+        sets: *mut usize,
+        needs: *mut usize,
+        marked: *mut usize,
     ) -> c_ushort;
 
     #[rustfmt::skip]
     fn vjolthar_diagram(
         columns: usize,
-        forbidden: *const u16, forbidden_count: usize,
-        marks: *const u16, marks_count: usize,
+        forbidden: *const u16,
+        forbidden_count: usize,
+        marks: *const u16,
+        marks_count: usize,
         chosen: usize,
-        column: *mut u16, column_count: usize,
-        low: *mut u16, low_count: usize,
-        high: *mut u16, high_count: usize,
-        root: *mut u16, count: *mut u16,
+        column: *mut u16,
+        column_count: usize,
+        low: *mut u16,
+        low_count: usize,
+        high: *mut u16,
+        high_count: usize,
+        root: *mut u16,
+        count: *mut u16,
     ) -> c_ushort;
 
     #[rustfmt::skip]
     fn vjolthar_one_paths(
         columns: usize,
-        forbidden: *const u16, forbidden_count: usize,
-        marks: *const u16, marks_count: usize,
+        forbidden: *const u16,
+        forbidden_count: usize,
+        marks: *const u16,
+        marks_count: usize,
         chosen: usize,
-        column: *mut u16, column_count: usize,
-        low: *mut u16, low_count: usize,
-        high: *mut u16, high_count: usize,
-        ones: *mut u16, ones_count: usize,
-        zeros: *mut u16, zeros_count: usize,
-        root: *mut u16, count: *mut u16, paths: *mut u16,
+        column: *mut u16,
+        column_count: usize,
+        low: *mut u16,
+        low_count: usize,
+        high: *mut u16,
+        high_count: usize,
+        ones: *mut u16,
+        ones_count: usize,
+        zeros: *mut u16,
+        zeros_count: usize,
+        root: *mut u16,
+        count: *mut u16,
+        paths: *mut u16,
     ) -> c_ushort;
 
     #[rustfmt::skip]
     fn vjolthar_plan(
         columns: usize,
-        forbidden: *const u16, forbidden_count: usize,
-        marks: *const u16, marks_count: usize,
-        extracts: *mut u16, extracts_count: usize,
+        forbidden: *const u16,
+        forbidden_count: usize,
+        marks: *const u16,
+        marks_count: usize,
+        extracts: *mut u16,
+        extracts_count: usize,
         count: *mut u16,
     ) -> c_ushort;
 }

@@ -2,6 +2,7 @@
 //!
 //!     bench [--limit SECONDS]                 measures everything and prints the tables
 //!     bench --hunt SECONDS SEED [PEER]        searches for a job that is hard for ours or for the peer, and prints it
+//!     bench --program PEER JOB                prints what a peer of the planner is given for a job text
 
 #[cfg(buddy)]
 mod buddy;
@@ -24,15 +25,19 @@ mod spread;
 mod stored;
 mod table;
 mod three;
+mod words;
 #[cfg(z3)]
 mod z3;
 
+use families::Family;
+use job::Job;
 use library::Lent;
 use peer::Peer;
 use spread::{number, Spread};
 use table::section;
 
-const JOBS: usize = 12;
+const JOBS: usize = 24;
+const LIMIT: u32 = 5;
 const START_UPS: usize = 41;
 
 fn main() {
@@ -40,16 +45,23 @@ fn main() {
     let words: Vec<&str> = arguments.iter().map(String::as_str).collect();
     let mut lent = Lent::new();
     match words[..] {
-        [] => measure(5, &mut lent),
+        [] => measure(LIMIT, &mut lent),
         ["--limit", seconds] => measure(parsed(seconds) as u32, &mut lent),
         ["--hunt", seconds, seed] => hunt::hunt(parsed(seconds), parsed(seed), None, &mut lent),
         ["--hunt", seconds, seed, name] => {
-            let peers = peers();
-            let peer = peers.iter().find(|peer| peer.name == name);
-            hunt::hunt(parsed(seconds), parsed(seed), Some(peer.expect("an installed peer")), &mut lent);
+            hunt::hunt(parsed(seconds), parsed(seed), Some(&peer(name)), &mut lent)
+        }
+        ["--program", name, path] => {
+            let text = std::fs::read_to_string(path).expect("a job text");
+            print!(
+                "{}",
+                (peer(name).program)(
+                    &Job::from_text(path, &text).expect("a job text that is read")
+                )
+            );
         }
         _ => {
-            eprintln!("usage: bench/run [--limit SECONDS | --hunt SECONDS SEED [PEER]]");
+            eprintln!("usage: bench/run [--limit SECONDS | --hunt SECONDS SEED [PEER] | --program PEER JOB]");
             std::process::exit(2);
         }
     }
@@ -59,50 +71,97 @@ fn parsed(word: &str) -> u64 {
     word.parse().expect("a number of seconds or a seed")
 }
 
-/// The peers of the planner that are installed.
-fn peers() -> Vec<Peer> {
-    let mut peers = Vec::new();
-    if clingo::installed() {
-        let start_up = Spread::new((0..START_UPS).map(|_| clingo::start_up())).median().value;
-        peers.push(Peer { name: "clingo", start_up, program: clingo::program, plan: clingo::plan });
-    }
+fn peer(name: &str) -> Peer {
+    peers()
+        .into_iter()
+        .flatten()
+        .find(|peer| peer.name == name)
+        .expect("clingo or z3, installed")
+}
+
+/// The peers of the planner, none in the place of one that is not installed: clingo, then z3.
+fn peers() -> [Option<Peer>; 2] {
+    let clingo = clingo::installed().then(|| {
+        let start_up = Spread::new((0..START_UPS).map(|_| clingo::start_up()))
+            .median()
+            .value;
+        Peer {
+            name: "clingo",
+            start_up,
+            program: clingo::program,
+            plan: clingo::plan,
+        }
+    });
     #[cfg(z3)]
-    peers.push(Peer { name: "z3", start_up: 0.0, program: z3::program, plan: z3::plan });
-    peers
+    let z3 = Some(Peer {
+        name: "z3",
+        start_up: 0.0,
+        program: z3::program,
+        plan: z3::plan,
+    });
+    #[cfg(not(z3))]
+    let z3 = None;
+    [clingo, z3]
 }
 
 fn measure(limit: u32, lent: &mut Lent) {
-    let peers = peers();
-    plan(&peers, limit, lent);
+    plan(limit, lent);
     draw(lent);
-    section("Reading", "");
+    section("Reader beside a plain reader", words::READER);
     reading::readings(JOBS, lent);
-    section("Growth", "");
+    section("Growth with the number of columns", words::GROWTH);
     growth::growth(JOBS, lent);
-    section("Three jobs", "");
+    section("Three jobs of 16 columns", words::THREE);
     three::three(lent);
 }
 
-fn plan(peers: &[Peer], limit: u32, lent: &mut Lent) {
-    let families = [families::thesis(8), families::thesis(12), families::thesis(16), families::dense(), families::mixed()];
-    for peer in peers {
-        section(&format!("Planner beside {}", peer.name), &format!("start-up {} ms", number(peer.start_up * 1e3)));
-        planning::families(&families, JOBS, peer, limit, lent);
+fn all_families() -> [Family; 5] {
+    [
+        families::thesis(8),
+        families::thesis(12),
+        families::thesis(16),
+        families::dense(),
+        families::mixed(),
+    ]
+}
+
+fn plan(limit: u32, lent: &mut Lent) {
+    let peers = peers();
+    for (peer, (heading, words)) in peers.iter().zip(words::PLANNER) {
+        let Some(peer) = peer else {
+            section(heading, words::NOT_INSTALLED);
+            continue;
+        };
+        section(heading, words);
+        if peer.start_up > 0.0 {
+            println!(
+                "The start-up of {} is {} ms, the median of {START_UPS}.\n",
+                peer.name,
+                number(peer.start_up * 1e3)
+            );
+        }
+        planning::families(&all_families(), JOBS, peer, limit, lent);
     }
-    section("hardest", "");
-    planning::hardest(&stored::jobs("hard"), peers, limit, lent);
+    let installed: Vec<Peer> = peers.into_iter().flatten().collect();
+    section("Planner on the hardest jobs known", words::HARDEST);
+    planning::hardest(&stored::jobs("hard"), &installed, limit, lent);
 }
 
 #[cfg(buddy)]
 fn draw(lent: &mut Lent) {
-    section("Diagram beside BuDDy", "");
-    let families = [families::thesis(8), families::thesis(12), families::thesis(16), families::dense(), families::mixed()];
-    let mut lists: Vec<_> = families.iter().map(|family| (format!("{}, n = {}", family.name, family.n), family.jobs(JOBS))).collect();
+    section(words::DIAGRAM_HEADING, words::DIAGRAM);
+    let list = |family: &Family| {
+        (
+            format!("{}, n = {}", family.name, family.n),
+            family.jobs(JOBS),
+        )
+    };
+    let mut lists: Vec<_> = all_families().iter().map(list).collect();
     lists.push(("dense.job".to_string(), vec![stored::job("dense")]));
     drawing::drawings(&lists, lent);
 }
 
 #[cfg(not(buddy))]
 fn draw(_: &mut Lent) {
-    section("Diagram beside BuDDy", "BuDDy (libbdd-dev): not installed.");
+    section(words::DIAGRAM_HEADING, words::NOT_INSTALLED);
 }

@@ -8,7 +8,7 @@ use crate::job::{Answer, Job};
 use crate::library::Lent;
 use crate::peer::Peer;
 use crate::spread::{number, Figure, Spread};
-use crate::table::{progress, table};
+use crate::table::{progress, table, REPEATED};
 
 const REPEATS: usize = 5;
 /// A run of a peer that takes as many seconds is not repeated.
@@ -25,7 +25,11 @@ impl Duel {
     fn new(job: &Job, peer: &Peer, limit: u32, lent: &mut Lent) -> Duel {
         let program = (peer.program)(job);
         let answer = job.answer(lent);
-        let mut duel = Duel { pairs: Vec::new(), answer, over: false };
+        let mut duel = Duel {
+            pairs: Vec::new(),
+            answer,
+            over: false,
+        };
         while duel.pairs.len() < REPEATS {
             let ours = clock::timed(|| {
                 lent.plan(&job.numbers);
@@ -57,7 +61,10 @@ impl Duel {
     }
 
     fn spread(&self, value: impl Fn(&(f64, f64)) -> f64) -> Spread {
-        let figure = |pair| Figure { value: value(pair), over: self.over };
+        let figure = |pair| Figure {
+            value: value(pair),
+            over: self.over,
+        };
         Spread::of(self.pairs.iter().map(figure).collect())
     }
 }
@@ -65,7 +72,10 @@ impl Duel {
 /// Another answer than ours ends the benchmark: one of the two is wrong, and figures for it would say nothing.
 fn agree(job: &Job, peer: &Peer, ours: Answer, theirs: Answer) {
     if ours != theirs {
-        eprintln!("bench: {} disagrees on job {}: {theirs:?}, ours {ours:?}\n{}", peer.name, job.name, job.text);
+        eprintln!(
+            "bench: {} disagrees on job {}: {theirs:?}, ours {ours:?}\n{}",
+            peer.name, job.name, job.text
+        );
         std::process::exit(1);
     }
 }
@@ -73,30 +83,53 @@ fn agree(job: &Job, peer: &Peer, ours: Answer, theirs: Answer) {
 /// A row for each family.
 pub fn families(families: &[Family], count: usize, peer: &Peer, limit: u32, lent: &mut Lent) {
     let row = |family: &Family| {
-        progress(&format!("{} on the jobs of {}, n = {}", peer.name, family.name, family.n));
-        let duels: Vec<Duel> = family.jobs(count).iter().map(|job| Duel::new(job, peer, limit, lent)).collect();
+        progress(&format!(
+            "{} on the jobs of {}, n = {}",
+            peer.name, family.name, family.n
+        ));
+        let duels: Vec<Duel> = family
+            .jobs(count)
+            .iter()
+            .map(|job| Duel::new(job, peer, limit, lent))
+            .collect();
         family_row(family, &duels, peer)
     };
     let rows: Vec<_> = families.iter().map(row).collect();
-    let mut head = vec!["Family", "n", "Jobs, impossible", "Ours, microseconds"];
+    let mut head = vec![
+        "Family",
+        "n",
+        "Jobs, of these impossible",
+        "Ours, microseconds",
+    ];
     let (time, whole, less) = heads(peer);
     let over = format!("Over {limit} s");
     head.extend([time.as_str(), &whole]);
     head.extend(less.as_deref());
-    head.extend(["Repeats", over.as_str()]);
+    head.extend([REPEATED, over.as_str()]);
     table(&head, &rows);
 }
 
 /// The heads of the columns of a peer: its time, the ratio, and the ratio less the start-up if it has one.
 fn heads(peer: &Peer) -> (String, String, Option<String>) {
     let less = (peer.start_up > 0.0).then(|| format!("{} less start-up / ours", peer.name));
-    (format!("{}, ms", peer.name), format!("{} / ours", peer.name), less)
+    (
+        format!("{}, ms", peer.name),
+        format!("{} / ours", peer.name),
+        less,
+    )
 }
 
 fn family_row(family: &Family, duels: &[Duel], peer: &Peer) -> Vec<String> {
-    let over_jobs = |figure: &dyn Fn(&Duel) -> Figure| Spread::of(duels.iter().map(figure).collect()).shown();
-    let scaled = |figure: Figure, unit: f64| Figure { value: figure.value * unit, over: figure.over };
-    let impossible = duels.iter().filter(|duel| duel.answer == Answer::Impossible).count();
+    let over_jobs =
+        |figure: &dyn Fn(&Duel) -> Figure| Spread::of(duels.iter().map(figure).collect()).shown();
+    let scaled = |figure: Figure, unit: f64| Figure {
+        value: figure.value * unit,
+        over: figure.over,
+    };
+    let impossible = duels
+        .iter()
+        .filter(|duel| duel.answer == Answer::Impossible)
+        .count();
     let mut row = vec![
         family.name.to_string(),
         family.n.to_string(),
@@ -110,14 +143,22 @@ fn family_row(family: &Family, duels: &[Duel], peer: &Peer) -> Vec<String> {
     }
     // Jobs that were run once say nothing about repeats.
     let repeated = duels.iter().filter(|duel| duel.pairs.len() > 1);
-    row.push(number(Spread::new(repeated.map(|duel| duel.ratio(0.0).factor())).median().value));
+    row.push(number(
+        Spread::new(repeated.map(|duel| duel.ratio(0.0).factor()))
+            .median()
+            .value,
+    ));
     row.push(duels.iter().filter(|duel| duel.over).count().to_string());
     row
 }
 
 /// A row for each of the hardest jobs.
 pub fn hardest(jobs: &[Job], peers: &[Peer], limit: u32, lent: &mut Lent) {
-    let mut head = vec!["Job".to_string(), "Answer".to_string(), "Ours, ms".to_string()];
+    let mut head = vec![
+        "Job".to_string(),
+        "Answer".to_string(),
+        "Ours, ms".to_string(),
+    ];
     for peer in peers {
         let (time, whole, less) = heads(peer);
         head.extend([time, whole]);

@@ -7,26 +7,43 @@ use crate::job::text;
 use crate::library::Lent;
 use crate::plain;
 use crate::random::Random;
-use crate::spread::{number, Spread};
-use crate::table::table;
+use crate::spread::{counts, number, Spread};
+use crate::table::{table, REPEATED};
 
 const REPEATS: usize = 15;
 const LONGEST: usize = 8192;
 
 /// A row for each kind of text.
 pub fn readings(count: usize, lent: &mut Lent) {
-    let typical: Vec<Vec<u8>> = families::thesis(16).jobs(count).into_iter().map(|job| job.text.into_bytes()).collect();
+    let typical: Vec<Vec<u8>> = families::thesis(16)
+        .jobs(count)
+        .into_iter()
+        .map(|job| job.text.into_bytes())
+        .collect();
     let large = large(count);
     let damaged_typical = damaged(&typical);
     let damaged_large = damaged(&large);
     let kinds = [
-        ("typical: the family of the thesis, n = 16", typical),
-        ("large: near 8,192 bytes", large),
+        ("typical", typical),
+        ("large", large),
         ("typical, damaged", damaged_typical),
         ("large, damaged", damaged_large),
     ];
-    let rows: Vec<_> = kinds.iter().map(|(name, texts)| row(name, texts, lent)).collect();
-    table(&["Texts", "How many, refused", "Bytes", "Ours, microseconds", "Plain reader / ours", "Repeats"], &rows);
+    let rows: Vec<_> = kinds
+        .iter()
+        .map(|(name, texts)| row(name, texts, lent))
+        .collect();
+    table(
+        &[
+            "Texts",
+            "How many, of these refused",
+            "Bytes",
+            "Ours, microseconds",
+            "Plain reader / ours",
+            REPEATED,
+        ],
+        &rows,
+    );
 }
 
 fn row(name: &str, texts: &[Vec<u8>], lent: &mut Lent) -> Vec<String> {
@@ -38,7 +55,10 @@ fn row(name: &str, texts: &[Vec<u8>], lent: &mut Lent) -> Vec<String> {
             let seconds = clock::timed(|| {
                 lent.read(text);
             });
-            pairs.push((seconds, clock::timed(|| drop(std::hint::black_box(plain::read(text))))));
+            pairs.push((
+                seconds,
+                clock::timed(|| drop(std::hint::black_box(plain::read(text)))),
+            ));
         }
         let ratio = Spread::new(pairs.iter().map(|pair| pair.1 / pair.0));
         ours.push(1e6 * Spread::new(pairs.iter().map(|pair| pair.0)).median().value);
@@ -48,7 +68,7 @@ fn row(name: &str, texts: &[Vec<u8>], lent: &mut Lent) -> Vec<String> {
     vec![
         name.to_string(),
         format!("{}, {refused}", texts.len()),
-        Spread::new(texts.iter().map(|text| text.len() as f64)).shown(),
+        counts(&texts.iter().map(Vec::len).collect::<Vec<_>>()),
         Spread::new(ours).shown(),
         Spread::new(ratios).shown(),
         number(Spread::new(factors).median().value),
@@ -59,14 +79,22 @@ fn row(name: &str, texts: &[Vec<u8>], lent: &mut Lent) -> Vec<String> {
 fn agree(text: &[u8], lent: &mut Lent) -> u16 {
     let theirs = plain::read(text);
     let ours = lent.read(text);
-    let names: Vec<u8> = theirs.names.iter().flat_map(|name| [name, &[0; 12][name.len()..]].concat()).collect();
-    let same = (ours.refusal, ours.place, ours.columns, ours.needs) == (theirs.refusal, theirs.place, theirs.columns, theirs.needs)
+    let names: Vec<u8> = theirs
+        .names
+        .iter()
+        .flat_map(|name| [name, &[0; 12][name.len()..]].concat())
+        .collect();
+    let same = (ours.refusal, ours.place, ours.columns, ours.needs)
+        == (theirs.refusal, theirs.place, theirs.columns, theirs.needs)
         && lent.forbidden[..ours.sets] == theirs.forbidden
         && lent.marks[..ours.marked] == theirs.marks
         && lent.names[..names.len()] == names;
     if !same {
         let shown = String::from_utf8_lossy(text);
-        eprintln!("bench: the plain reader disagrees: {theirs:?}, ours {} at {}\n{shown}", ours.refusal, ours.place);
+        eprintln!(
+            "bench: the plain reader disagrees: {theirs:?}, ours {} at {}\n{shown}",
+            ours.refusal, ours.place
+        );
         std::process::exit(1);
     }
     ours.refusal
@@ -75,7 +103,9 @@ fn agree(text: &[u8], lent: &mut Lent) -> u16 {
 /// Texts with long names and as many lines as there may be, filled up with forbidden sets to just under the longest.
 fn large(count: usize) -> Vec<Vec<u8>> {
     let mut random = Random::new(8192);
-    let names: Vec<String> = (0..16).map(|column| format!("longcolumn{column:02}")).collect();
+    let names: Vec<String> = (0..16)
+        .map(|column| format!("longcolumn{column:02}"))
+        .collect();
     let one = |_| {
         let needs: Vec<_> = (0..8).map(|_| need(&mut random, 16, 28, 50)).collect();
         let mut forbidden: Vec<_> = (0..32).map(|_| random.columns(16, 2)).collect();

@@ -9,7 +9,11 @@ pub struct Figure {
 
 impl Figure {
     pub fn shown(self) -> String {
-        format!("{}{}", if self.over { "over " } else { "" }, number(self.value))
+        format!(
+            "{}{}",
+            if self.over { "over " } else { "" },
+            number(self.value)
+        )
     }
 }
 
@@ -18,7 +22,12 @@ pub struct Spread(Vec<Figure>);
 
 impl Spread {
     pub fn new(values: impl IntoIterator<Item = f64>) -> Spread {
-        Spread::of(values.into_iter().map(|value| Figure { value, over: false }).collect())
+        Spread::of(
+            values
+                .into_iter()
+                .map(|value| Figure { value, over: false })
+                .collect(),
+        )
     }
 
     pub fn of(mut figures: Vec<Figure>) -> Spread {
@@ -30,7 +39,10 @@ impl Spread {
     pub fn median(&self) -> Figure {
         let after = self.0[self.0.len() / 2];
         let before = self.0[(self.0.len() - 1) / 2];
-        Figure { value: (before.value + after.value) / 2.0, over: before.over || after.over }
+        Figure {
+            value: (before.value + after.value) / 2.0,
+            over: before.over || after.over,
+        }
     }
 
     /// How far apart the highest and the lowest are, as a factor.
@@ -44,8 +56,27 @@ impl Spread {
         if last == 0 {
             return self.0[0].shown();
         }
-        format!("{} ({} to {})", self.median().shown(), self.0[0].shown(), self.0[last].shown())
+        format!(
+            "{} ({} to {})",
+            self.median().shown(),
+            self.0[0].shown(),
+            self.0[last].shown()
+        )
     }
+}
+
+/// "median (lowest to highest)" of counts, which are written whole.
+pub fn counts(counts: &[usize]) -> String {
+    let mut sorted = counts.to_vec();
+    sorted.sort();
+    let written = |count: usize| commas(count as u64);
+    let last = sorted.len() - 1;
+    format!(
+        "{} ({} to {})",
+        written(sorted[last / 2]),
+        written(sorted[0]),
+        written(sorted[last])
+    )
 }
 
 /// Rounded to three digits that count, with commas between thousands.

@@ -15,7 +15,9 @@ pub fn job(name: &str) -> Job {
 pub fn jobs(start: &str) -> Vec<Job> {
     let entries = std::fs::read_dir(PLACE).unwrap_or_else(|error| panic!("{PLACE}: {error}"));
     let files = entries.filter_map(|entry| entry.ok()?.file_name().into_string().ok());
-    let mut names: Vec<String> = files.filter_map(|file| Some(file.strip_suffix(".job")?.to_string())).collect();
+    let mut names: Vec<String> = files
+        .filter_map(|file| Some(file.strip_suffix(".job")?.to_string()))
+        .collect();
     names.retain(|name| name.starts_with(start));
     names.sort();
     names.iter().map(|name| job(name)).collect()

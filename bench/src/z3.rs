@@ -25,7 +25,12 @@ extern "C" {
     fn Z3_optimize_inc_ref(context: Object, optimizer: Object);
     fn Z3_optimize_dec_ref(context: Object, optimizer: Object);
     fn Z3_optimize_from_string(context: Object, optimizer: Object, text: *const c_char);
-    fn Z3_optimize_check(context: Object, optimizer: Object, count: c_uint, assumptions: *const Object) -> c_int;
+    fn Z3_optimize_check(
+        context: Object,
+        optimizer: Object,
+        count: c_uint,
+        assumptions: *const Object,
+    ) -> c_int;
     fn Z3_optimize_get_upper(context: Object, optimizer: Object, objective: c_uint) -> Object;
     fn Z3_ast_to_string(context: Object, ast: Object) -> *const c_char;
 }
@@ -44,12 +49,17 @@ pub fn program(job: &Job) -> String {
         line(format!("(declare-const used_{extract} Bool)"));
     }
     for column in 0..job.numbers.columns {
-        let each: Vec<String> = (0..needs.len()).map(|extract| format!("in_{column}_{extract}")).collect();
+        let each: Vec<String> = (0..needs.len())
+            .map(|extract| format!("in_{column}_{extract}"))
+            .collect();
         line(format!("(assert ((_ at-most 1) {}))", each.join(" ")));
     }
     for extract in 0..needs.len() {
         for set in job.forbidden() {
-            let outside: Vec<String> = set.iter().map(|column| format!("(not in_{column}_{extract})")).collect();
+            let outside: Vec<String> = set
+                .iter()
+                .map(|column| format!("(not in_{column}_{extract})"))
+                .collect();
             line(format!("(assert (or false {}))", outside.join(" ")));
         }
     }
@@ -62,21 +72,37 @@ pub fn program(job: &Job) -> String {
 
 /// Each need is served by one extract, and a new extract is numbered next after those that earlier needs have.
 fn serving(text: &mut String, need: usize, formula: &Formula) {
-    let each: Vec<String> = (0..=need).map(|extract| format!("serves_{need}_{extract}")).collect();
+    let each: Vec<String> = (0..=need)
+        .map(|extract| format!("serves_{need}_{extract}"))
+        .collect();
     for (extract, serves) in each.iter().enumerate() {
         writeln!(text, "(declare-const {serves} Bool)").expect("a string grows");
-        writeln!(text, "(assert (=> {serves} {}))", spelled(formula, extract)).expect("a string grows");
+        writeln!(text, "(assert (=> {serves} {}))", spelled(formula, extract))
+            .expect("a string grows");
         writeln!(text, "(assert (=> {serves} used_{extract}))").expect("a string grows");
         if extract > 0 {
-            let earlier: Vec<String> = (extract - 1..need).map(|other| format!("serves_{other}_{}", extract - 1)).collect();
-            writeln!(text, "(assert (=> {serves} (or false {})))", earlier.join(" ")).expect("a string grows");
+            let earlier: Vec<String> = (extract - 1..need)
+                .map(|other| format!("serves_{other}_{}", extract - 1))
+                .collect();
+            writeln!(
+                text,
+                "(assert (=> {serves} (or false {})))",
+                earlier.join(" ")
+            )
+            .expect("a string grows");
         }
     }
     writeln!(text, "(assert (or false {}))", each.join(" ")).expect("a string grows");
 }
 
 fn spelled(formula: &Formula, extract: usize) -> String {
-    let all = |parts: &[Formula]| parts.iter().map(|part| spelled(part, extract)).collect::<Vec<_>>().join(" ");
+    let all = |parts: &[Formula]| {
+        parts
+            .iter()
+            .map(|part| spelled(part, extract))
+            .collect::<Vec<_>>()
+            .join(" ")
+    };
     match formula {
         Formula::Column(column) => format!("in_{column}_{extract}"),
         Formula::Both(parts) => format!("(and {})", all(parts)),
@@ -87,11 +113,19 @@ fn spelled(formula: &Formula, extract: usize) -> String {
 /// Fewest extracts, then fewest columns.
 fn aims(text: &mut String, columns: usize, extracts: usize) {
     for extract in 0..extracts {
-        writeln!(text, "(assert-soft (not used_{extract}) :weight 1 :id extracts)").expect("a string grows");
+        writeln!(
+            text,
+            "(assert-soft (not used_{extract}) :weight 1 :id extracts)"
+        )
+        .expect("a string grows");
     }
     for column in 0..columns {
         for extract in 0..extracts {
-            writeln!(text, "(assert-soft (not in_{column}_{extract}) :weight 1 :id total)").expect("a string grows");
+            writeln!(
+                text,
+                "(assert-soft (not in_{column}_{extract}) :weight 1 :id total)"
+            )
+            .expect("a string grows");
         }
     }
 }
@@ -128,9 +162,17 @@ pub fn plan(program: &str, limit: u32) -> Run {
 /// The optimizer has just found an optimum in this context.
 unsafe fn split(context: Object, optimizer: Object) -> Answer {
     let number = |objective| {
-        let written = Z3_ast_to_string(context, Z3_optimize_get_upper(context, optimizer, objective));
-        let word = CStr::from_ptr(written).to_str().expect("a number is plain text");
+        let written = Z3_ast_to_string(
+            context,
+            Z3_optimize_get_upper(context, optimizer, objective),
+        );
+        let word = CStr::from_ptr(written)
+            .to_str()
+            .expect("a number is plain text");
         word.parse::<f64>().expect("an optimum is a number") as usize
     };
-    Answer::Split { extracts: number(0), columns: number(1) }
+    Answer::Split {
+        extracts: number(0),
+        columns: number(1),
+    }
 }
