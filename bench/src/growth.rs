@@ -25,24 +25,27 @@ const CALLS: [(&str, fn(&mut Lent, &Job)); 4] = [
 
 /// A row for each n: the median over the jobs, its spread, and the factor to the row before.
 pub fn growth(count: usize, lent: &mut Lent) {
+    let sizes: Vec<usize> = (4..=16).step_by(2).collect();
+    let jobs: Vec<Vec<Job>> = sizes
+        .iter()
+        .map(|n| families::growing(*n).jobs(count))
+        .collect();
+    let columns: Vec<Vec<Spread>> = CALLS
+        .iter()
+        .map(|(_, call)| over_sizes(&jobs, *call, lent))
+        .collect();
     let mut rows = Vec::new();
-    let mut before: Option<Vec<f64>> = None;
-    for n in (4..=16).step_by(2) {
-        let jobs = families::growing(n).jobs(count);
-        let spreads: Vec<Spread> = CALLS
-            .iter()
-            .map(|(_, call)| over_jobs(&jobs, *call, lent))
-            .collect();
+    for (place, n) in sizes.iter().enumerate() {
         let mut row = vec![n.to_string()];
-        for (place, spread) in spreads.iter().enumerate() {
-            row.push(spread.shown());
-            let factor = before
-                .as_ref()
-                .map(|medians| spread.median().value / medians[place]);
-            row.push(factor.map_or(String::new(), number));
+        for column in &columns {
+            row.push(column[place].shown());
+            let before = place
+                .checked_sub(1)
+                .map(|before| column[before].median().value);
+            let factor = before.map(|before| number(column[place].median().value / before));
+            row.push(factor.unwrap_or_default());
         }
         rows.push(row);
-        before = Some(spreads.iter().map(|spread| spread.median().value).collect());
     }
     let mut head = vec!["n"];
     for (name, _) in CALLS {
@@ -51,11 +54,22 @@ pub fn growth(count: usize, lent: &mut Lent) {
     table(&head, &rows);
 }
 
-/// In microseconds.
-fn over_jobs(jobs: &[Job], call: fn(&mut Lent, &Job), lent: &mut Lent) -> Spread {
-    let mut one = |job: &Job| {
-        let times = (0..REPEATS).map(|_| 1e6 * clock::timed(|| call(lent, job)));
-        Spread::new(times).median().value
-    };
-    Spread::new(jobs.iter().map(&mut one))
+/// For each n the microseconds over its jobs. A round goes through every n, so that a machine that is slower for a while is so for all of them.
+fn over_sizes(jobs: &[Vec<Job>], call: fn(&mut Lent, &Job), lent: &mut Lent) -> Vec<Spread> {
+    let mut times: Vec<Vec<Vec<f64>>> = jobs
+        .iter()
+        .map(|jobs| vec![Vec::new(); jobs.len()])
+        .collect();
+    for _ in 0..REPEATS {
+        for (jobs, times) in jobs.iter().zip(&mut times) {
+            for (job, times) in jobs.iter().zip(times) {
+                times.push(1e6 * clock::timed(|| call(lent, job)));
+            }
+        }
+    }
+    let median = |times: Vec<f64>| Spread::new(times).median().value;
+    times
+        .into_iter()
+        .map(|times| Spread::new(times.into_iter().map(median)))
+        .collect()
 }

@@ -107,28 +107,42 @@ fn change(formula: &mut Formula, random: &mut Random) {
     }
 }
 
-/// Climbs for so many seconds and prints the best job, with its seconds on standard error. With a peer, what counts is the peer's time.
-pub fn hunt(seconds: u64, seed: u64, peer: Option<&Peer>, lent: &mut Lent) {
-    let mut random = Random::new(seed);
+/// What a climb is to do.
+pub struct Hunt<'a> {
+    pub seconds: u64,
+    pub seed: u64,
+    /// Whose time counts; ours if there is none.
+    pub peer: Option<&'a Peer>,
+    /// Where to start; from random jobs if there is none.
+    pub from: Option<&'a Job>,
+}
+
+/// Climbs and prints the best job, with its seconds on standard error.
+pub fn hunt(hunt: &Hunt, lent: &mut Lent) {
+    let mut random = Random::new(hunt.seed);
     let start = Instant::now();
-    let mut best = (0.0, Draft::new(&mut random));
+    let first = hunt.from.map(|job| Draft {
+        forbidden: job.forbidden(),
+        needs: job.needs(),
+    });
+    let mut starts = if first.is_some() { 0 } else { STARTS };
+    let mut best = (0.0, first.unwrap_or_else(|| Draft::new(&mut random)));
     let mut current = best.clone();
-    let mut tries = 0;
-    while start.elapsed().as_secs() < seconds && best.0 < LIMIT {
-        tries += 1;
-        let starting = tries < STARTS;
+    while start.elapsed().as_secs() < hunt.seconds && best.0 < LIMIT {
+        let starting = starts > 0;
         let draft = if starting {
             Draft::new(&mut random)
         } else {
             current.1.changed(&mut random)
         };
+        starts -= usize::from(starting);
         let Some(job) = draft.job() else {
             continue;
         };
         // Measured again if it seems to take longer: a single call may have been disturbed.
-        let mut taken = cost(&job, peer, lent);
+        let mut taken = cost(&job, hunt.peer, lent);
         if taken > best.0 {
-            taken = taken.min(cost(&job, peer, lent));
+            taken = taken.min(cost(&job, hunt.peer, lent));
         }
         if taken > best.0 {
             eprintln!("bench: {taken:.6} s after {} s", start.elapsed().as_secs());

@@ -1,7 +1,8 @@
 //! The benchmark: what the library's calls cost, beside programs that a reader might use in its place. bench/run builds it and runs it.
 //!
 //!     bench [--limit SECONDS]                 measures everything and prints the tables
-//!     bench --hunt SECONDS SEED [PEER]        searches for a job that is hard for ours or for the peer, and prints it
+//!     bench --hunt SECONDS SEED [PEER]        searches for a job that is hard for ours, or for the peer, and prints it
+//!     bench --hunt SECONDS SEED from JOB      the same, from the job of that file on
 //!     bench --program PEER JOB                prints what a peer of the planner is given for a job text
 
 #[cfg(buddy)]
@@ -33,12 +34,10 @@ use families::Family;
 use job::Job;
 use library::Lent;
 use peer::Peer;
-use spread::{number, Spread};
 use table::section;
 
 const JOBS: usize = 24;
 const LIMIT: u32 = 5;
-const START_UPS: usize = 41;
 
 fn main() {
     let arguments: Vec<String> = std::env::args().skip(1).collect();
@@ -47,24 +46,29 @@ fn main() {
     match words[..] {
         [] => measure(LIMIT, &mut lent),
         ["--limit", seconds] => measure(parsed(seconds) as u32, &mut lent),
-        ["--hunt", seconds, seed] => hunt::hunt(parsed(seconds), parsed(seed), None, &mut lent),
+        ["--hunt", seconds, seed] => search(seconds, seed, None, None, &mut lent),
+        ["--hunt", seconds, seed, "from", path] => {
+            search(seconds, seed, None, Some(&stored::text(path)), &mut lent)
+        }
         ["--hunt", seconds, seed, name] => {
-            hunt::hunt(parsed(seconds), parsed(seed), Some(&peer(name)), &mut lent)
+            search(seconds, seed, Some(&peer(name)), None, &mut lent)
         }
-        ["--program", name, path] => {
-            let text = std::fs::read_to_string(path).expect("a job text");
-            print!(
-                "{}",
-                (peer(name).program)(
-                    &Job::from_text(path, &text).expect("a job text that is read")
-                )
-            );
-        }
+        ["--program", name, path] => print!("{}", (peer(name).program)(&stored::text(path))),
         _ => {
-            eprintln!("usage: bench/run [--limit SECONDS | --hunt SECONDS SEED [PEER] | --program PEER JOB]");
+            eprintln!("usage: bench/run [--limit SECONDS | --hunt SECONDS SEED [PEER | from JOB] | --program PEER JOB]");
             std::process::exit(2);
         }
     }
+}
+
+fn search(seconds: &str, seed: &str, peer: Option<&Peer>, from: Option<&Job>, lent: &mut Lent) {
+    let hunt = hunt::Hunt {
+        seconds: parsed(seconds),
+        seed: parsed(seed),
+        peer,
+        from,
+    };
+    hunt::hunt(&hunt, lent);
 }
 
 fn parsed(word: &str) -> u64 {
@@ -81,21 +85,16 @@ fn peer(name: &str) -> Peer {
 
 /// The peers of the planner, none in the place of one that is not installed: clingo, then z3.
 fn peers() -> [Option<Peer>; 2] {
-    let clingo = clingo::installed().then(|| {
-        let start_up = Spread::new((0..START_UPS).map(|_| clingo::start_up()))
-            .median()
-            .value;
-        Peer {
-            name: "clingo",
-            start_up,
-            program: clingo::program,
-            plan: clingo::plan,
-        }
+    let clingo = clingo::installed().then_some(Peer {
+        name: "clingo",
+        start_up: Some(clingo::start_up),
+        program: clingo::program,
+        plan: clingo::plan,
     });
     #[cfg(z3)]
     let z3 = Some(Peer {
         name: "z3",
-        start_up: 0.0,
+        start_up: None,
         program: z3::program,
         plan: z3::plan,
     });
@@ -133,13 +132,6 @@ fn plan(limit: u32, lent: &mut Lent) {
             continue;
         };
         section(heading, words);
-        if peer.start_up > 0.0 {
-            println!(
-                "The start-up of {} is {} ms, the median of {START_UPS}.\n",
-                peer.name,
-                number(peer.start_up * 1e3)
-            );
-        }
         planning::families(&all_families(), JOBS, peer, limit, lent);
     }
     let installed: Vec<Peer> = peers.into_iter().flatten().collect();

@@ -1,6 +1,6 @@
 //! The planner beside its peers: the families of jobs, and the hardest jobs that are known.
 //!
-//! Ours, peer, ours, peer: each run of a peer stands beside a sample of ours taken right before it, and a ratio is made of these two.
+//! Ours, the peer's start-up, the peer, and again: a ratio is made of times that were taken right after one another.
 
 use crate::clock;
 use crate::families::Family;
@@ -14,9 +14,16 @@ const REPEATS: usize = 5;
 /// A run of a peer that takes as many seconds is not repeated.
 const LONG: f64 = 1.0;
 
-/// One job, measured: seconds of ours and of the peer, side by side.
+/// Seconds that were taken right after one another. A peer in this process has no start-up.
+struct Times {
+    ours: f64,
+    start_up: f64,
+    peer: f64,
+}
+
+/// One job, measured.
 struct Duel {
-    pairs: Vec<(f64, f64)>,
+    times: Vec<Times>,
     answer: Answer,
     over: bool,
 }
@@ -26,16 +33,21 @@ impl Duel {
         let program = (peer.program)(job);
         let answer = job.answer(lent);
         let mut duel = Duel {
-            pairs: Vec::new(),
+            times: Vec::new(),
             answer,
             over: false,
         };
-        while duel.pairs.len() < REPEATS {
+        while duel.times.len() < REPEATS {
             let ours = clock::timed(|| {
                 lent.plan(&job.numbers);
             });
+            let start_up = peer.start_up.map_or(0.0, |start_up| start_up());
             let run = (peer.plan)(&program, limit);
-            duel.pairs.push((ours, run.seconds));
+            duel.times.push(Times {
+                ours,
+                start_up,
+                peer: run.seconds,
+            });
             match run.answer {
                 Some(theirs) => agree(job, peer, answer, theirs),
                 None => duel.over = true,
@@ -47,25 +59,24 @@ impl Duel {
         duel
     }
 
-    fn ours(&self) -> Spread {
-        Spread::new(self.pairs.iter().map(|pair| pair.0))
+    fn milliseconds(&self) -> Spread {
+        self.spread(|times| times.peer * 1e3)
     }
 
-    fn peer(&self) -> Spread {
-        self.spread(|pair| pair.1)
+    fn ratio(&self) -> Spread {
+        self.spread(|times| times.peer / times.ours)
     }
 
-    /// The peer's time less its start-up, divided by ours.
-    fn ratio(&self, start_up: f64) -> Spread {
-        self.spread(|pair| (pair.1 - start_up).max(0.0) / pair.0)
+    fn ratio_less_start_up(&self) -> Spread {
+        self.spread(|times| (times.peer - times.start_up).max(0.0) / times.ours)
     }
 
-    fn spread(&self, value: impl Fn(&(f64, f64)) -> f64) -> Spread {
-        let figure = |pair| Figure {
-            value: value(pair),
+    fn spread(&self, value: impl Fn(&Times) -> f64) -> Spread {
+        let figure = |times| Figure {
+            value: value(times),
             over: self.over,
         };
-        Spread::of(self.pairs.iter().map(figure).collect())
+        Spread::of(self.times.iter().map(figure).collect())
     }
 }
 
@@ -82,19 +93,22 @@ fn agree(job: &Job, peer: &Peer, ours: Answer, theirs: Answer) {
 
 /// A row for each family.
 pub fn families(families: &[Family], count: usize, peer: &Peer, limit: u32, lent: &mut Lent) {
-    let row = |family: &Family| {
+    let mut rows = Vec::new();
+    let mut all = Vec::new();
+    for family in families {
         progress(&format!(
             "{} on the jobs of {}, n = {}",
             peer.name, family.name, family.n
         ));
-        let duels: Vec<Duel> = family
-            .jobs(count)
+        let jobs = family.jobs(count);
+        let duels: Vec<Duel> = jobs
             .iter()
             .map(|job| Duel::new(job, peer, limit, lent))
             .collect();
-        family_row(family, &duels, peer)
-    };
-    let rows: Vec<_> = families.iter().map(row).collect();
+        rows.push(family_row(family, &duels, peer));
+        all.extend(duels);
+    }
+    say_start_up(&all, peer);
     let mut head = vec![
         "Family",
         "n",
@@ -111,7 +125,9 @@ pub fn families(families: &[Family], count: usize, peer: &Peer, limit: u32, lent
 
 /// The heads of the columns of a peer: its time, the ratio, and the ratio less the start-up if it has one.
 fn heads(peer: &Peer) -> (String, String, Option<String>) {
-    let less = (peer.start_up > 0.0).then(|| format!("{} less start-up / ours", peer.name));
+    let less = peer
+        .start_up
+        .map(|_| format!("{} less start-up / ours", peer.name));
     (
         format!("{}, ms", peer.name),
         format!("{} / ours", peer.name),
@@ -120,11 +136,9 @@ fn heads(peer: &Peer) -> (String, String, Option<String>) {
 }
 
 fn family_row(family: &Family, duels: &[Duel], peer: &Peer) -> Vec<String> {
-    let over_jobs =
-        |figure: &dyn Fn(&Duel) -> Figure| Spread::of(duels.iter().map(figure).collect()).shown();
-    let scaled = |figure: Figure, unit: f64| Figure {
-        value: figure.value * unit,
-        over: figure.over,
+    let over_jobs = |spread: &dyn Fn(&Duel) -> Spread| {
+        let medians = duels.iter().map(|duel| spread(duel).median());
+        Spread::of(medians.collect()).shown()
     };
     let impossible = duels
         .iter()
@@ -134,22 +148,35 @@ fn family_row(family: &Family, duels: &[Duel], peer: &Peer) -> Vec<String> {
         family.name.to_string(),
         family.n.to_string(),
         format!("{}, {impossible}", duels.len()),
-        over_jobs(&|duel| scaled(duel.ours().median(), 1e6)),
-        over_jobs(&|duel| scaled(duel.peer().median(), 1e3)),
-        over_jobs(&|duel| duel.ratio(0.0).median()),
+        over_jobs(&|duel| Spread::new(duel.times.iter().map(|times| times.ours * 1e6))),
+        over_jobs(&Duel::milliseconds),
+        over_jobs(&Duel::ratio),
     ];
-    if peer.start_up > 0.0 {
-        row.push(over_jobs(&|duel| duel.ratio(peer.start_up).median()));
+    if peer.start_up.is_some() {
+        row.push(over_jobs(&Duel::ratio_less_start_up));
     }
     // Jobs that were run once say nothing about repeats.
-    let repeated = duels.iter().filter(|duel| duel.pairs.len() > 1);
+    let repeated = duels.iter().filter(|duel| duel.times.len() > 1);
     row.push(number(
-        Spread::new(repeated.map(|duel| duel.ratio(0.0).factor()))
+        Spread::new(repeated.map(|duel| duel.ratio().factor()))
             .median()
             .value,
     ));
     row.push(duels.iter().filter(|duel| duel.over).count().to_string());
     row
+}
+
+/// The median of the start-ups that stand beside the runs, in a sentence.
+fn say_start_up(duels: &[Duel], peer: &Peer) {
+    if peer.start_up.is_some() {
+        let all = duels.iter().flat_map(|duel| &duel.times);
+        let milliseconds = Spread::new(all.map(|times| times.start_up * 1e3));
+        println!(
+            "Start-up of {} in this run: {} ms.\n",
+            peer.name,
+            milliseconds.shown()
+        );
+    }
 }
 
 /// A row for each of the hardest jobs.
@@ -186,10 +213,10 @@ fn hard_row(job: &Job, peers: &[Peer], limit: u32, lent: &mut Lent) -> Vec<Strin
     let mut row = vec![job.name.clone(), answer, Spread::new(times).shown()];
     for peer in peers {
         let duel = Duel::new(job, peer, limit, lent);
-        row.push(duel.spread(|pair| pair.1 * 1e3).shown());
-        row.push(duel.ratio(0.0).shown());
-        if peer.start_up > 0.0 {
-            row.push(duel.ratio(peer.start_up).shown());
+        row.push(duel.milliseconds().shown());
+        row.push(duel.ratio().shown());
+        if peer.start_up.is_some() {
+            row.push(duel.ratio_less_start_up().shown());
         }
     }
     row

@@ -4,11 +4,20 @@ use crate::job::Job;
 
 const PLACE: &str = "bench/jobs";
 
+/// The job of a file, named as the file is.
+pub fn text(path: &str) -> Job {
+    let text = std::fs::read_to_string(path).unwrap_or_else(|error| panic!("{path}: {error}"));
+    let name = path
+        .rsplit('/')
+        .next()
+        .unwrap_or(path)
+        .trim_end_matches(".job");
+    Job::from_text(name, &text).unwrap_or_else(|| panic!("{path}: the library refuses it"))
+}
+
 /// The stored job of that name.
 pub fn job(name: &str) -> Job {
-    let path = format!("{PLACE}/{name}.job");
-    let text = std::fs::read_to_string(&path).unwrap_or_else(|error| panic!("{path}: {error}"));
-    Job::from_text(name, &text).unwrap_or_else(|| panic!("{path}: the library refuses it"))
+    text(&format!("{PLACE}/{name}.job"))
 }
 
 /// Every stored job whose name starts so, sorted by name.
