@@ -1,4 +1,5 @@
-/* BuDDy as a peer of the diagram: the same condition built by apply. BuDDy has no complement edges, so its nodes are the library's inner nodes. */
+/* BuDDy as a peer of the diagram: the same condition built by apply. BuDDy has no complement
+   edges, so its nodes are the library's inner nodes. */
 #include <bdd.h>
 #include <stddef.h>
 #include <stdint.h>
@@ -28,7 +29,7 @@ static void join(BDD *first, BDD second, int operator)
     *first = joined;
 }
 
-/* The need: its marks name operands before their join. Without marks there is no need, which is true. */
+/* The need: its marks name operands before their join. No need, which has no marks, is true. */
 static BDD needed(const uint16_t *marks, size_t count)
 {
     BDD waiting[MOST_OPERANDS] = { bddtrue };
@@ -36,7 +37,8 @@ static BDD needed(const uint16_t *marks, size_t count)
     for (size_t i = 0; i < count; i++) {
         if (marks[i] == BOTH || marks[i] == EITHER) {
             operands--;
-            join(&waiting[operands - 1], waiting[operands], marks[i] == BOTH ? bddop_and : bddop_or);
+            int operator = marks[i] == BOTH ? bddop_and : bddop_or;
+            join(&waiting[operands - 1], waiting[operands], operator);
         } else {
             waiting[operands++] = bdd_addref(bdd_ithvar(marks[i]));
         }
@@ -44,7 +46,8 @@ static BDD needed(const uint16_t *marks, size_t count)
     return waiting[0];
 }
 
-/* That a set is not contained: some column of it is missing. From the last column up, so that each step adds one node on top. */
+/* That a set is not contained: some column of it is missing. From the last column up, so that
+   each step adds one node on top. */
 static BDD missing(uint16_t set)
 {
     BDD some = bddfalse;

@@ -12,8 +12,8 @@ extern "C" {
     fn buddy_release(condition: i32);
 }
 
-/// Nodes and cache entries to begin with. These are the sizes that BuDDy's manual gives for small examples: with more, setting up takes longer; with less,
-/// the building does.
+/// Nodes and cache entries to begin with. These are the sizes that BuDDy's manual gives for small
+/// examples: with more, setting up takes longer; with less, the building does.
 const SMALL: (i32, i32) = (10_000, 1_000);
 /// The sizes for medium examples, so that BuDDy can remember more where setting up is not counted.
 const MEDIUM: (i32, i32) = (100_000, 10_000);
@@ -68,7 +68,8 @@ pub fn built(job: &Numbers, chosen: usize) -> Built {
     }
 }
 
-/// The seconds of a build with the nodes and caches of the builds of the same diagram before it: mostly answers that BuDDy remembers.
+/// The seconds of a build with the nodes and caches of the builds of the same diagram before it:
+/// mostly answers that BuDDy remembers.
 pub fn again(job: &Numbers, chosen: usize) -> f64 {
     let marks = marks(job, chosen);
     // SAFETY: as in `built`; a condition that is let go leaves its nodes in the table.

@@ -1,9 +1,12 @@
-//! Clingo, that is gringo with clasp, as a peer of the planner. Debian has no library of it, so it runs as a process.
+//! Clingo, that is gringo with clasp, as a peer of the planner. Debian has no library of it, so it
+//! runs as a process.
 //!
-//! The encoding: each column lies in at most one extract; each need is served by one extract, and what it needs there is said by auxiliary atoms, one
-//! for each join; extracts without an index in use hold nothing. Two things cut down the search. There are as many possible extracts as needs, and extracts
-//! are numbered by the first need that they serve, so that renumbering a split gives no other answer. Only the numbers of extracts and of columns are asked
-//! for, not which of the equally good splits is taken.
+//! The encoding: each column lies in at most one extract; each need is served by one extract, and
+//! what it needs there is said by auxiliary atoms, one for each join; extracts without an index in
+//! use hold nothing. Two things cut down the search. There are as many possible extracts as needs,
+//! and extracts are numbered by the first need that they serve, so that renumbering a split gives
+//! no other answer. Only the numbers of extracts and of columns are asked for, not which of the
+//! equally good splits is taken.
 
 use std::fmt::Write as _;
 use std::io::{Read as _, Write as _};
@@ -13,7 +16,8 @@ use crate::clock;
 use crate::job::{Answer, Formula, Job};
 use crate::peer::Run;
 
-/// The rules that are the same for every job. `true(Need, Part, Extract)` says that a part of a need is true of an extract; part 0 is the whole.
+/// The rules that are the same for every job. `true(Need, Part, Extract)` says that a part of a
+/// need is true of an extract; part 0 is the whole.
 const RULES: &str = "\
 extract(0..needs-1).
 { in(C,E) : extract(E) } 1 :- C = 0..columns-1.
@@ -31,7 +35,8 @@ used(E) :- serves(_,E).
 /// The least program: what it takes is the start of the process.
 const LEAST: &str = "a.\n";
 
-/// The options that were fastest on these jobs. With clasp's defaults, branch and bound, the hardest ones take it far longer.
+/// The options that were fastest on these jobs. With clasp's defaults, branch and bound, the
+/// hardest ones take it far longer.
 const OPTIONS: [&str; 2] = ["--opt-strategy=usc", "--configuration=crafty"];
 
 pub fn installed() -> bool {

@@ -1,4 +1,5 @@
-//! The clock: processor time, which other work on the machine does not lengthen, and which is never more than the time on the wall.
+//! The clock: processor time, which other work on the machine does not lengthen, and which is never
+//! more than the time on the wall.
 
 use std::os::raw::{c_int, c_long};
 
@@ -10,7 +11,8 @@ struct Time {
     nanoseconds: c_long,
 }
 
-/// The C library's `struct rusage` of Linux on x86-64: two times in seconds and microseconds, then fourteen counts.
+/// The C library's `struct rusage` of Linux on x86-64: two times in seconds and microseconds, then
+/// fourteen counts.
 #[repr(C)]
 struct Usage {
     user: [c_long; 2],
@@ -35,7 +37,8 @@ pub fn now() -> f64 {
     time.seconds as f64 + time.nanoseconds as f64 / 1e9
 }
 
-/// Waits for a child that nobody else waits for, and answers the seconds that it has used from its start to its end.
+/// Waits for a child that nobody else waits for, and answers the seconds that it has used from its
+/// start to its end.
 pub fn ended(child: u32) -> f64 {
     let mut status = 0;
     let mut usage = Usage {
@@ -50,7 +53,8 @@ pub fn ended(child: u32) -> f64 {
     seconds(usage.user) + seconds(usage.system)
 }
 
-/// The seconds that one call takes: the mean of so many calls that they last a fifth of a millisecond, and at most 200.
+/// The seconds that one call takes: the mean of so many calls that they last a fifth of a
+/// millisecond, and at most 200.
 pub fn timed(mut call: impl FnMut()) -> f64 {
     let mut once = |count: u32| {
         let start = now();

@@ -1,4 +1,5 @@
-//! Families of jobs, made by a generator with a fixed seed. The first is that of 001, section 3.7, cut to the library's limits.
+//! Families of jobs, made by a generator with a fixed seed. The first is that of 001, section 3.7,
+//! cut to the library's limits.
 
 use crate::job::{joined, text, Answer, Formula, Job};
 use crate::library::Lent;
@@ -24,8 +25,9 @@ pub struct Family {
     seed: u64,
 }
 
-/// 001, section 3.7: 5 to 25 forbidden sets of 2 to 8 columns, 2 to 10 needs of 2 to 4 columns, no impossible jobs. Here 2 to 8 needs, and 8 to 16 columns
-/// where the thesis has 10 to 40. It does not say how the columns of a need are joined: here by "and" and "or" in equal parts.
+/// 001, section 3.7: 5 to 25 forbidden sets of 2 to 8 columns, 2 to 10 needs of 2 to 4 columns, no
+/// impossible jobs. Here 2 to 8 needs, and 8 to 16 columns where the thesis has 10 to 40. It does
+/// not say how the columns of a need are joined: here by "and" and "or" in equal parts.
 pub fn thesis(n: usize) -> Family {
     Family {
         name: "thesis",
@@ -55,7 +57,8 @@ pub fn dense() -> Family {
     }
 }
 
-/// Small forbidden sets against needs that mostly ask for several columns: each need can be met by itself, but many of the jobs have no correct split.
+/// Small forbidden sets against needs that mostly ask for several columns: each need can be met by
+/// itself, but many of the jobs have no correct split.
 pub fn mixed() -> Family {
     Family {
         name: "mixed",
@@ -125,7 +128,8 @@ fn possible(job: &Job, lent: &mut Lent) -> bool {
     job.answer(lent) != Answer::Impossible
 }
 
-/// Each need can be met if it is the only one, so that a job can be impossible only by all of them together.
+/// Each need can be met if it is the only one, so that a job can be impossible only by all of them
+/// together.
 fn each_alone(job: &Job, lent: &mut Lent) -> bool {
     (0..job.numbers.needs).all(|need| possible(&job.with_need(need), lent))
 }
@@ -134,7 +138,8 @@ fn drawn(random: &mut Random, range: Range) -> usize {
     random.between(range.0, range.1)
 }
 
-/// A need of so many column marks: neighbours are joined at random until one formula is left. Columns come again only where there are more marks than columns.
+/// A need of so many column marks: neighbours are joined at random until one formula is left.
+/// Columns come again only where there are more marks than columns.
 pub fn need(random: &mut Random, n: usize, count: usize, both: usize) -> Formula {
     let mut columns = random.columns(n, count.min(n));
     while columns.len() < count {

@@ -1,4 +1,5 @@
-//! How the cost of each call grows with the number of columns, the other numbers of the job staying the same.
+//! How the cost of each call grows with the number of columns, the other numbers of the job staying
+//! the same.
 
 use crate::clock;
 use crate::families;
@@ -54,7 +55,8 @@ pub fn growth(count: usize, lent: &mut Lent) {
     table(&head, &rows);
 }
 
-/// For each n the microseconds over its jobs. A round goes through every n, so that a machine that is slower for a while is so for all of them.
+/// For each n the microseconds over its jobs. A round goes through every n, so that a machine that
+/// is slower for a while is so for all of them.
 fn over_sizes(jobs: &[Vec<Job>], call: fn(&mut Lent, &Job), lent: &mut Lent) -> Vec<Spread> {
     let mut times: Vec<Vec<Vec<f64>>> = jobs
         .iter()

@@ -1,4 +1,5 @@
-//! The search for hard jobs: hill climbing from a random job, where a changed job is kept if the planner, or a peer, takes longer on it.
+//! The search for hard jobs: hill climbing from a random job, where a changed job is kept if the
+//! planner, or a peer, takes longer on it.
 
 use std::time::Instant;
 
@@ -27,8 +28,9 @@ struct Draft {
 }
 
 impl Draft {
-    /// Some columns must lie apart, and each of them has a need of its own that asks for others too: so there are several extracts and many ways to fill
-    /// them. The other needs ask only for columns that may lie anywhere.
+    /// Some columns must lie apart, and each of them has a need of its own that asks for others
+    /// too: so there are several extracts and many ways to fill them. The other needs ask only for
+    /// columns that may lie anywhere.
     fn new(random: &mut Random) -> Draft {
         let apart = random.between(3, 7);
         let mut forbidden = Vec::new();

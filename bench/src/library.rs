@@ -134,7 +134,8 @@ impl Lent {
 
     pub fn read(&mut self, text: &[u8]) -> Read {
         let mut read = Read::default();
-        // SAFETY: each pointer goes with the length of its own slice, and the numbers live through the call.
+        // SAFETY: each pointer goes with the length of its own slice, and the numbers live through
+        // the call.
         #[rustfmt::skip]
         let refusal = unsafe {
             vjolthar_read(
@@ -142,7 +143,8 @@ impl Lent {
                 self.forbidden.as_mut_ptr(), self.forbidden.len(),
                 self.marks.as_mut_ptr(), self.marks.len(),
                 self.names.as_mut_ptr(), self.names.len(),
-                &mut read.place, &mut read.columns, &mut read.sets, &mut read.needs, &mut read.marked,
+                &mut read.place, &mut read.columns,
+                &mut read.sets, &mut read.needs, &mut read.marked,
             )
         };
         read.refusal = refusal;

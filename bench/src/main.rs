@@ -1,9 +1,10 @@
-//! The benchmark: what the library's calls cost, beside programs that a reader might use in its place. bench/run builds it and runs it.
+//! The benchmark: what the library's calls cost, beside programs that a reader might use in its
+//! place. bench/run builds it and runs it.
 //!
-//!     bench [--limit SECONDS]                 measures everything and prints the tables
-//!     bench --hunt SECONDS SEED [PEER]        searches for a job that is hard for ours, or for the peer, and prints it
-//!     bench --hunt SECONDS SEED from JOB      the same, from the job of that file on
-//!     bench --program PEER JOB                prints what a peer of the planner is given for a job text
+//!     bench [--limit SECONDS]               measures everything and prints the tables
+//!     bench --hunt SECONDS SEED [PEER]      searches for a job that is hard for ours or the peer
+//!     bench --hunt SECONDS SEED from JOB    the same, from the job of that file on
+//!     bench --program PEER JOB              prints what a peer of the planner is given
 
 #[cfg(buddy)]
 mod buddy;
@@ -36,6 +37,8 @@ use library::Lent;
 use peer::Peer;
 use table::section;
 
+const USAGE: &str = "bench/run [--limit SECONDS | --hunt SECONDS SEED [PEER | from JOB] | \
+    --program PEER JOB]";
 const JOBS: usize = 24;
 const LIMIT: u32 = 5;
 
@@ -55,7 +58,7 @@ fn main() {
         }
         ["--program", name, path] => print!("{}", (peer(name).program)(&stored::text(path))),
         _ => {
-            eprintln!("usage: bench/run [--limit SECONDS | --hunt SECONDS SEED [PEER | from JOB] | --program PEER JOB]");
+            eprintln!("usage: {USAGE}");
             std::process::exit(2);
         }
     }

@@ -11,7 +11,8 @@ pub struct Run {
 /// A program that can be asked for the fewest extracts and then the fewest columns of a job.
 pub struct Peer {
     pub name: &'static str,
-    /// The seconds that a process of it takes for the least program; none for a peer that runs in this process.
+    /// The seconds that a process of it takes for the least program; none for a peer that runs in
+    /// this process.
     pub start_up: Option<fn() -> f64>,
     /// The job in the peer's own language.
     pub program: fn(&Job) -> String,

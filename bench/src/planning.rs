@@ -1,6 +1,7 @@
 //! The planner beside its peers: the families of jobs, and the hardest jobs that are known.
 //!
-//! Ours, the peer's start-up, the peer, and again: a ratio is made of times that were taken right after one another.
+//! Ours, the peer's start-up, the peer, and again: a ratio is made of times that were taken right
+//! after one another.
 
 use crate::clock;
 use crate::families::Family;
@@ -80,7 +81,8 @@ impl Duel {
     }
 }
 
-/// Another answer than ours ends the benchmark: one of the two is wrong, and figures for it would say nothing.
+/// Another answer than ours ends the benchmark: one of the two is wrong, and figures for it would
+/// say nothing.
 fn agree(job: &Job, peer: &Peer, ours: Answer, theirs: Answer) {
     if ours != theirs {
         eprintln!(
@@ -123,7 +125,8 @@ pub fn families(families: &[Family], count: usize, peer: &Peer, limit: u32, lent
     table(&head, &rows);
 }
 
-/// The heads of the columns of a peer: its time, the ratio, and the ratio less the start-up if it has one.
+/// The heads of the columns of a peer: its time, the ratio, and the ratio less the start-up if it
+/// has one.
 fn heads(peer: &Peer) -> (String, String, Option<String>) {
     let less = peer
         .start_up
@@ -155,15 +158,19 @@ fn family_row(family: &Family, duels: &[Duel], peer: &Peer) -> Vec<String> {
     if peer.start_up.is_some() {
         row.push(over_jobs(&Duel::ratio_less_start_up));
     }
-    // Jobs that were run once say nothing about repeats.
-    let repeated = duels.iter().filter(|duel| duel.times.len() > 1);
-    row.push(number(
-        Spread::new(repeated.map(|duel| duel.ratio().factor()))
-            .median()
-            .value,
-    ));
+    row.push(repeats(duels));
     row.push(duels.iter().filter(|duel| duel.over).count().to_string());
     row
+}
+
+/// How far the repeats of a ratio lie apart. Jobs that were run once say nothing about it.
+fn repeats(duels: &[Duel]) -> String {
+    let repeated = duels.iter().filter(|duel| duel.times.len() > 1);
+    let factors: Vec<f64> = repeated.map(|duel| duel.ratio().factor()).collect();
+    if factors.is_empty() {
+        return String::new();
+    }
+    number(Spread::new(factors).median().value)
 }
 
 /// The median of the start-ups that stand beside the runs, in a sentence.

@@ -1,4 +1,5 @@
-//! Reading a job text beside a plain reader: the recursive-descent reader of the tests, written in ordinary Rust.
+//! Reading a job text beside a plain reader: the recursive-descent reader of the tests, written in
+//! ordinary Rust.
 
 use crate::clock;
 use crate::families;
@@ -100,7 +101,8 @@ fn agree(text: &[u8], lent: &mut Lent) -> u16 {
     ours.refusal
 }
 
-/// Texts with long names and as many lines as there may be, filled up with forbidden sets to just under the longest.
+/// Texts with long names and as many lines as there may be, filled up with forbidden sets to just
+/// under the longest.
 fn large(count: usize) -> Vec<Vec<u8>> {
     let mut random = Random::new(8192);
     let names: Vec<String> = (0..16)

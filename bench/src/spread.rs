@@ -1,4 +1,5 @@
-//! Figures with their spread: the median, and the lowest and the highest of them; and how they are written.
+//! Figures with their spread: the median, and the lowest and the highest of them; and how they are
+//! written.
 
 /// A figure, or what it is over: a run that reached its time limit says no more.
 #[derive(Clone, Copy)]

@@ -1,4 +1,5 @@
-//! The jobs that are stored as texts in bench/jobs, because they were found by search and no generator makes them again.
+//! The jobs that are stored as texts in bench/jobs, because they were found by search and no
+//! generator makes them again.
 
 use crate::job::Job;
 

@@ -1,6 +1,7 @@
 //! Tables in markdown on standard output, and words on the way on standard error.
 
-/// The head of the column that says how far repeats of one ratio lie apart: the median, over the jobs, of the highest by the lowest.
+/// The head of the column that says how far repeats of one ratio lie apart: the median, over the
+/// jobs, of the highest by the lowest.
 pub const REPEATED: &str = "Repeats, highest / lowest";
 
 /// Prints a heading and a sentence or two.

@@ -1,4 +1,5 @@
-//! Three stored jobs of 16 columns, by name: a typical one, one with a large diagram, and one on which the planner takes long.
+//! Three stored jobs of 16 columns, by name: a typical one, one with a large diagram, and one on
+//! which the planner takes long.
 
 use crate::clock;
 use crate::job::Job;

@@ -1,8 +1,10 @@
 //! Z3's optimiser as a peer of the planner, called in this process through its C interface.
 //!
-//! The encoding is that of `clingo.rs`: a boolean for "this column lies in this extract", one for "this extract serves this need", at most one extract for
-//! a column, extracts numbered by the first need that they serve. The two aims are soft assertions, taken one after the other (Z3's lexicographic order,
-//! which is its default). The text is in SMT-LIB; reading it is counted, the making of Z3's context is not.
+//! The encoding is that of `clingo.rs`: a boolean for "this column lies in this extract", one for
+//! "this extract serves this need", at most one extract for a column, extracts numbered by the
+//! first need that they serve. The two aims are soft assertions, taken one after the other (Z3's
+//! lexicographic order, which is its default). The text is in SMT-LIB; reading it is counted, the
+//! making of Z3's context is not.
 
 use std::ffi::{c_char, c_int, c_uint, c_void, CStr, CString};
 use std::fmt::Write as _;
@@ -70,7 +72,8 @@ pub fn program(job: &Job) -> String {
     text
 }
 
-/// Each need is served by one extract, and a new extract is numbered next after those that earlier needs have.
+/// Each need is served by one extract, and a new extract is numbered next after those that earlier
+/// needs have.
 fn serving(text: &mut String, need: usize, formula: &Formula) {
     let each: Vec<String> = (0..=need)
         .map(|extract| format!("serves_{need}_{extract}"))
@@ -133,7 +136,8 @@ fn aims(text: &mut String, columns: usize, extracts: usize) {
 pub fn plan(program: &str, limit: u32) -> Run {
     let text = CString::new(program).expect("no byte of the program is 0");
     let milliseconds = CString::new((limit * 1000).to_string()).expect("digits");
-    // SAFETY: every object is used with the context that made it and before that is deleted, and the texts live through the calls.
+    // SAFETY: every object is used with the context that made it and before that is deleted, and
+    // the texts live through the calls.
     unsafe {
         let config = Z3_mk_config();
         Z3_set_param_value(config, c"timeout".as_ptr(), milliseconds.as_ptr());
