@@ -123,47 +123,58 @@ pub struct Hunt<'a> {
 pub fn hunt(hunt: &Hunt, lent: &mut Lent) {
     let mut random = Random::new(hunt.seed);
     let start = Instant::now();
-    let first = hunt.from.map(|job| Draft {
-        forbidden: job.forbidden(),
-        needs: job.needs(),
-    });
-    let mut starts = if first.is_some() { 0 } else { STARTS };
-    let mut best = (0.0, first.unwrap_or_else(|| Draft::new(&mut random)));
-    let mut current = best.clone();
+    let mut current = hunt.first(&mut random, lent);
+    let mut best = current.clone();
     while start.elapsed().as_secs() < hunt.seconds && best.0 < LIMIT {
-        let starting = starts > 0;
-        let draft = if starting {
-            Draft::new(&mut random)
-        } else {
-            current.1.changed(&mut random)
-        };
-        starts -= usize::from(starting);
-        let Some(job) = draft.job() else {
+        let draft = current.1.changed(&mut random);
+        let Some(taken) = hunt.cost(&draft, best.0, lent) else {
             continue;
         };
-        // Measured again if it seems to take longer: a single call may have been disturbed.
-        let mut taken = cost(&job, hunt.peer, lent);
-        if taken > best.0 {
-            taken = taken.min(cost(&job, hunt.peer, lent));
-        }
         if taken > best.0 {
             eprintln!("bench: {taken:.6} s after {} s", start.elapsed().as_secs());
             best = (taken, draft.clone());
         }
-        if taken >= current.0 * if starting { 1.0 } else { LOSS } {
+        if taken >= current.0 * LOSS {
             current = (taken, draft);
         }
     }
     print!("{}", best.1.job().expect("a job that was read before").text);
 }
 
-fn cost(job: &Job, peer: Option<&Peer>, lent: &mut Lent) -> f64 {
-    match peer {
-        Some(peer) => (peer.plan)(&(peer.program)(job), LIMIT as u32).seconds,
-        None => {
-            let start = clock::now();
-            lent.plan(&job.numbers);
-            clock::now() - start
-        }
+impl Hunt<'_> {
+    /// The job to start from with its seconds: the given one, or the best of some random ones.
+    fn first(&self, random: &mut Random, lent: &mut Lent) -> (f64, Draft) {
+        let drafts = match self.from {
+            Some(job) => vec![Draft {
+                forbidden: job.forbidden(),
+                needs: job.needs(),
+            }],
+            None => (0..STARTS).map(|_| Draft::new(random)).collect(),
+        };
+        let with_seconds = |draft: Draft| Some((self.cost(&draft, 0.0, lent)?, draft));
+        let timed = drafts.into_iter().filter_map(with_seconds);
+        timed
+            .max_by(|one, other| one.0.total_cmp(&other.0))
+            .expect("a job that is read")
+    }
+
+    /// The seconds of a job; none if it is refused. What seems to take longer than the longest so
+    /// far is measured twice: a single call may have been disturbed.
+    fn cost(&self, draft: &Draft, longest: f64, lent: &mut Lent) -> Option<f64> {
+        let job = draft.job()?;
+        let mut once = || match self.peer {
+            Some(peer) => (peer.plan)(&(peer.program)(&job), LIMIT as u32).seconds,
+            None => {
+                let start = clock::now();
+                lent.plan(&job.numbers);
+                clock::now() - start
+            }
+        };
+        let taken = once();
+        Some(if taken > longest {
+            taken.min(once())
+        } else {
+            taken
+        })
     }
 }
