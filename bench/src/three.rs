@@ -4,7 +4,7 @@
 use crate::clock;
 use crate::job::Job;
 use crate::library::Lent;
-use crate::spread::Spread;
+use crate::spread::{commas, Spread};
 use crate::stored;
 use crate::table::table;
 
@@ -62,7 +62,7 @@ fn row(
     vec![
         name.to_string(),
         format!("{}{need}", job.name),
-        format!("{count} {counted}"),
+        format!("{} {counted}", commas(u64::from(count))),
         Spread::new(times).shown(),
     ]
 }
