@@ -159,7 +159,7 @@ impl Hunt<'_> {
     }
 
     /// The seconds of a job; none if it is refused. What seems to take longer than the longest so
-    /// far is measured twice: a single call may have been disturbed.
+    /// far is measured again: a single run may have been disturbed, and the peers' own times vary.
     fn cost(&self, draft: &Draft, longest: f64, lent: &mut Lent) -> Option<f64> {
         let job = draft.job()?;
         let mut once = || match self.peer {
@@ -170,11 +170,12 @@ impl Hunt<'_> {
                 clock::now() - start
             }
         };
-        let taken = once();
-        Some(if taken > longest {
-            taken.min(once())
-        } else {
-            taken
-        })
+        let mut taken = once();
+        for _ in 0..3 {
+            if taken > longest {
+                taken = taken.min(once());
+            }
+        }
+        Some(taken)
     }
 }

@@ -1,10 +1,10 @@
 //! The benchmark: what the library's calls cost, beside programs that a reader might use in its
 //! place. bench/run builds it and runs it.
 //!
-//!     bench [--limit SECONDS]               measures everything and prints the tables
-//!     bench --hunt SECONDS SEED [PEER]      searches for a job that is hard for ours or the peer
-//!     bench --hunt SECONDS SEED from JOB    the same, from the job of that file on
-//!     bench --program PEER JOB              prints what a peer of the planner is given
+//!     bench [--limit SECONDS]                  measures everything and prints the tables
+//!     bench --hunt SECONDS SEED WHOSE [JOB]    searches, from random jobs or from a given one,
+//!                                              for a job on which ours, clingo or z3 takes long
+//!     bench --program PEER JOB                 prints what a peer of the planner is given
 
 #[cfg(buddy)]
 mod buddy;
@@ -37,7 +37,7 @@ use library::Lent;
 use peer::Peer;
 use table::section;
 
-const USAGE: &str = "bench/run [--limit SECONDS | --hunt SECONDS SEED [PEER | from JOB] | \
+const USAGE: &str = "bench/run [--limit SECONDS | --hunt SECONDS SEED WHOSE [JOB] | \
     --program PEER JOB]";
 const JOBS: usize = 24;
 const LIMIT: u32 = 5;
@@ -49,12 +49,9 @@ fn main() {
     match words[..] {
         [] => measure(LIMIT, &mut lent),
         ["--limit", seconds] => measure(parsed(seconds) as u32, &mut lent),
-        ["--hunt", seconds, seed] => search(seconds, seed, None, None, &mut lent),
-        ["--hunt", seconds, seed, "from", path] => {
-            search(seconds, seed, None, Some(&stored::text(path)), &mut lent)
-        }
-        ["--hunt", seconds, seed, name] => {
-            search(seconds, seed, Some(&peer(name)), None, &mut lent)
+        ["--hunt", seconds, seed, whose] => search(seconds, seed, whose, None, &mut lent),
+        ["--hunt", seconds, seed, whose, path] => {
+            search(seconds, seed, whose, Some(&stored::text(path)), &mut lent);
         }
         ["--program", name, path] => print!("{}", (peer(name).program)(&stored::text(path))),
         _ => {
@@ -64,11 +61,12 @@ fn main() {
     }
 }
 
-fn search(seconds: &str, seed: &str, peer: Option<&Peer>, from: Option<&Job>, lent: &mut Lent) {
+fn search(seconds: &str, seed: &str, whose: &str, from: Option<&Job>, lent: &mut Lent) {
+    let peer = (whose != "ours").then(|| peer(whose));
     let hunt = hunt::Hunt {
         seconds: parsed(seconds),
         seed: parsed(seed),
-        peer,
+        peer: peer.as_ref(),
         from,
     };
     hunt::hunt(&hunt, lent);

@@ -11,7 +11,7 @@ use crate::peer::Peer;
 use crate::spread::{number, Figure, Spread};
 use crate::table::{progress, table, REPEATED};
 
-const REPEATS: usize = 5;
+const REPEATS: usize = 9;
 /// A run of a peer that takes as many seconds is not repeated.
 const LONG: f64 = 1.0;
 
