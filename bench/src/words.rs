@@ -15,10 +15,10 @@ pub const PLANNER: [(&str, &str); 2] = [
     ),
 ];
 
-pub const HARDEST: &str = "Jobs of 16 columns. `hard` and `hard-ours` were searched for the time \
-    that ours takes, `hard-clingo` and `hard-z3` for the time of that peer. In `hard-impossible`, \
-    made by hand, eight needs that must lie apart want one of the same seven columns each. The \
-    spread is over the repeats.";
+pub const HARDEST: &str = "Jobs of 15 and 16 columns. `hard` and `hard-ours` were searched for \
+    the time that ours takes, `hard-clingo` and `hard-z3` for the time of that peer. In \
+    `hard-impossible`, made by hand, eight needs that must lie apart want one of the same seven \
+    columns each. The spread is over the repeats.";
 
 pub const DIAGRAM_HEADING: &str = "Diagram beside BuDDy";
 #[cfg(buddy)]
