@@ -107,6 +107,8 @@ pub fn plan(program: &str, limit: u32) -> Run {
     }
 }
 
+/// The seconds and what was written. It is the clock that waits for the child's end.
+#[allow(clippy::zombie_processes)]
 fn process(program: &str, limit: u32) -> (f64, String) {
     let mut command = Command::new("clingo");
     command

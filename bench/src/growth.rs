@@ -8,8 +8,11 @@ use crate::library::Lent;
 use crate::spread::{number, Spread};
 use crate::table::table;
 
+/// A call of the library on a job.
+type Call = fn(&mut Lent, &Job);
+
 const REPEATS: usize = 7;
-const CALLS: [(&str, fn(&mut Lent, &Job)); 4] = [
+const CALLS: [(&str, Call); 4] = [
     ("read", |lent, job| {
         lent.read(job.text.as_bytes());
     }),
@@ -57,7 +60,7 @@ pub fn growth(count: usize, lent: &mut Lent) {
 
 /// For each n the microseconds over its jobs. A round goes through every n, so that a machine that
 /// is slower for a while is so for all of them.
-fn over_sizes(jobs: &[Vec<Job>], call: fn(&mut Lent, &Job), lent: &mut Lent) -> Vec<Spread> {
+fn over_sizes(jobs: &[Vec<Job>], call: Call, lent: &mut Lent) -> Vec<Spread> {
     let mut times: Vec<Vec<Vec<f64>>> = jobs
         .iter()
         .map(|jobs| vec![Vec::new(); jobs.len()])

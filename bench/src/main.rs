@@ -18,6 +18,8 @@ mod hunt;
 mod job;
 mod library;
 mod peer;
+// Only its `read` is used here; the tests may use more of it.
+#[allow(dead_code)]
 #[path = "../../tests/twin/src/text.rs"]
 mod plain;
 mod planning;
