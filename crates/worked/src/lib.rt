@@ -2,7 +2,6 @@
 pub mod checksum; // checksum.rt: a checksum of numbers
 pub mod dense; // dense.rt: the numbers of a job with a large diagram
 pub mod forming; // forming.rt: random forbidden sets and needs
-pub mod hard; // hard.rt: the numbers of a job that takes long to plan
 pub mod print; // print.rt: text and numbers to standard output
 pub mod published; // published.rt: the numbers of the published examples
 pub mod random; // random.rt: numbers that look random
