@@ -1,0 +1,107 @@
+//! Inputs of each call by chance: texts and numbers with lent slices of telling lengths.
+
+use crate::cases::{
+    DiagramCase, JobCase, JudgeCase, Lent, PathsCase, PlanCase, ReadCase, ReportCase,
+};
+use crate::chance::Chance;
+use crate::{numbers, texts};
+use twin::diagram::{one_paths, NodeSlices};
+
+/// A slice that is mostly as long as it has to be or a little longer, at times too short.
+fn lent<T: Copy + PartialEq>(
+    chance: &mut Chance,
+    enough: usize,
+    old: impl Fn(&mut Chance) -> T,
+) -> Lent<T> {
+    let length = match chance.below(24) {
+        0 => enough.saturating_sub(1),
+        1 => chance.pick(&[0, 1, enough / 2, enough.saturating_sub(2)]),
+        2..=11 => enough,
+        12..=20 => enough + 1,
+        _ => enough + chance.below(100),
+    };
+    Lent::new(length, || old(chance))
+}
+
+fn lent_numbers(chance: &mut Chance, enough: usize) -> Lent<u16> {
+    lent(chance, enough, |chance| chance.number() as u16)
+}
+
+fn lent_bytes(chance: &mut Chance, enough: usize) -> Lent<u8> {
+    lent(chance, enough, |chance| chance.number() as u8)
+}
+
+pub fn read(chance: &mut Chance) -> ReadCase {
+    ReadCase {
+        text: texts::text(chance),
+        forbidden: lent_numbers(chance, 32),
+        marks: lent_numbers(chance, 512),
+        names: lent_bytes(chance, 192),
+    }
+}
+
+pub fn report(chance: &mut Chance) -> ReportCase {
+    ReportCase {
+        text: texts::text(chance),
+        page: lent_bytes(chance, 296),
+    }
+}
+
+pub fn diagram(chance: &mut Chance) -> DiagramCase {
+    let job = numbers::job(chance);
+    DiagramCase {
+        chosen: chosen(chance, &job),
+        job,
+        nodes: [8445; 3].map(|enough| lent_numbers(chance, enough)),
+    }
+}
+
+/// One of the needs, "no need", or an index past it.
+fn chosen(chance: &mut Chance, job: &JobCase) -> usize {
+    let needs = job.marks.iter().filter(|&&mark| mark == 18).count();
+    match chance.below(12) {
+        0 => needs + 1,
+        1 => chance.pick(&[9, 18, 65_536, usize::MAX]),
+        _ => chance.below(needs + 1),
+    }
+}
+
+/// The path slices are as long as there are paths, one less, or some more.
+pub fn one_paths_case(chance: &mut Chance) -> PathsCase {
+    let diagram = diagram(chance);
+    let paths = path_count(&diagram);
+    PathsCase {
+        diagram,
+        ones: lent_numbers(chance, paths),
+        zeros: lent_numbers(chance, paths),
+    }
+}
+
+fn path_count(case: &DiagramCase) -> usize {
+    let [mut column, mut low, mut high] = [vec![0; 8445], vec![0; 8445], vec![0; 8445]];
+    let mut nodes = NodeSlices {
+        column: &mut column,
+        low: &mut low,
+        high: &mut high,
+    };
+    let (mut ones, mut zeros) = (vec![0; 32_768], vec![0; 32_768]);
+    let numbers = case.job.numbers();
+    one_paths(numbers, case.chosen, &mut nodes, &mut ones, &mut zeros)
+        .paths
+        .into()
+}
+
+pub fn judge(chance: &mut Chance) -> JudgeCase {
+    let job = numbers::job(chance);
+    JudgeCase {
+        split: numbers::split(chance, &job),
+        job,
+    }
+}
+
+pub fn plan(chance: &mut Chance) -> PlanCase {
+    PlanCase {
+        job: numbers::job(chance),
+        extracts: lent_numbers(chance, 8),
+    }
+}

@@ -1,0 +1,173 @@
+//! The differential run: the library and its twin on the same inputs.
+//!
+//! `twin [CASES [SEED]]`. The last line is 'N passed, M failed', where each call that is compared
+//! and each known case of the twin counts once, however many inputs were tried.
+
+mod cases;
+mod chance;
+mod compare;
+mod inputs;
+mod known;
+mod numbers;
+mod ours;
+mod texts;
+
+use chance::Chance;
+use compare::{Compared, Outcome};
+use std::collections::BTreeMap;
+use std::process::ExitCode;
+use Outcome::{Fault, Refusal, TooManyPaths};
+
+const USUAL_CASES: u64 = 2000;
+const USUAL_SEED: u64 = 20_240_601;
+
+/// A call to be compared.
+struct Call {
+    name: &'static str,
+    /// Inputs for each case: cheap calls get more of them.
+    inputs: u64,
+    compare: fn(&mut Chance) -> Compared,
+    /// What an input can lead to; all of these have to be met in the usual run.
+    outcomes: &'static [Outcome],
+}
+
+const TEXT_OUTCOMES: &[Outcome] = &[
+    Refusal(0),
+    Refusal(1),
+    Refusal(2),
+    Refusal(3),
+    Refusal(4),
+    Refusal(5),
+    Refusal(6),
+    Refusal(8),
+];
+
+const CALLS: [Call; 6] = [
+    Call {
+        name: "read",
+        inputs: 40,
+        compare: |chance| compare::read(&inputs::read(chance)),
+        outcomes: TEXT_OUTCOMES,
+    },
+    Call {
+        name: "diagram",
+        inputs: 1,
+        compare: |chance| compare::diagram(&inputs::diagram(chance)),
+        outcomes: &[Refusal(0), Refusal(7), Refusal(8)],
+    },
+    Call {
+        name: "one_paths",
+        inputs: 1,
+        compare: |chance| compare::one_paths(&inputs::one_paths_case(chance)),
+        outcomes: &[Refusal(0), Refusal(7), Refusal(8), TooManyPaths],
+    },
+    Call {
+        name: "judge",
+        inputs: 4,
+        compare: |chance| compare::judge(&inputs::judge(chance)),
+        outcomes: &[Refusal(7), Fault(0), Fault(1), Fault(2), Fault(3), Fault(4)],
+    },
+    Call {
+        name: "plan",
+        inputs: 1,
+        compare: |chance| compare::plan(&inputs::plan(chance)),
+        outcomes: &[Refusal(0), Refusal(7), Refusal(8), Refusal(9)],
+    },
+    Call {
+        name: "report",
+        inputs: 4,
+        compare: |chance| compare::report(&inputs::report(chance)),
+        outcomes: &[
+            Refusal(0),
+            Refusal(1),
+            Refusal(2),
+            Refusal(3),
+            Refusal(4),
+            Refusal(5),
+            Refusal(6),
+            Refusal(8),
+            Refusal(9),
+        ],
+    },
+];
+
+/// How many inputs, from which seed, and whether every outcome has to be met.
+struct Run {
+    cases: u64,
+    seed: u64,
+    usual: bool,
+}
+
+fn main() -> ExitCode {
+    let Some(run) = asked(&std::env::args().skip(1).collect::<Vec<_>>()) else {
+        eprintln!("twin: the arguments are [CASES [SEED]], both numbers, CASES not 0");
+        return ExitCode::from(2);
+    };
+    let mut passed = 0;
+    let mut failed = 0;
+    let mut tell = |name: &str, right: bool| {
+        *(if right { &mut passed } else { &mut failed }) += 1;
+        if !right {
+            println!("twin: {name}: NOT AS EXPECTED");
+        }
+    };
+    for (name, right) in known::cases() {
+        tell(&name, right);
+    }
+    for call in CALLS {
+        tell(call.name, run.agree(&call));
+    }
+    println!("{passed} passed, {failed} failed");
+    ExitCode::from(u8::from(failed > 0))
+}
+
+fn asked(arguments: &[String]) -> Option<Run> {
+    if arguments.len() > 2 {
+        return None;
+    }
+    let number = |place: usize, usual: u64| match arguments.get(place) {
+        Some(argument) => argument.parse().ok(),
+        None => Some(usual),
+    };
+    let run = Run {
+        cases: number(0, USUAL_CASES)?,
+        seed: number(1, USUAL_SEED)?,
+        usual: arguments.is_empty(),
+    };
+    (run.cases > 0).then_some(run)
+}
+
+impl Run {
+    /// Compares one call on all its inputs and prints what was met.
+    fn agree(&self, call: &Call) -> bool {
+        let mut met: BTreeMap<Outcome, u64> = BTreeMap::new();
+        let inputs = self.cases.saturating_mul(call.inputs);
+        for input in 0..inputs {
+            match (call.compare)(&mut Chance::new(self.seed, input)) {
+                Ok(outcome) => *met.entry(outcome).or_default() += 1,
+                Err(account) => {
+                    println!("{account}  seed {}, input {input}", self.seed);
+                    return false;
+                }
+            }
+        }
+        let counts: Vec<String> = met
+            .iter()
+            .map(|(outcome, count)| format!("{outcome}: {count}"))
+            .collect();
+        println!(
+            "twin: {}: {inputs} inputs, {}",
+            call.name,
+            counts.join(", ")
+        );
+        let missing = call
+            .outcomes
+            .iter()
+            .find(|outcome| !met.contains_key(outcome));
+        if let (true, Some(missing)) = (self.usual, missing) {
+            println!("twin: {}: no input led to {missing}", call.name);
+            return false;
+        }
+        true
+    }
+}

@@ -1,0 +1,279 @@
+//! The library under test, called through its C interface.
+//!
+//! This is the only file with `unsafe`: every wrapper hands over slices by pointer and length, as a
+//! C program would. The numbers to be answered start with a value that no answer has, so that a
+//! number which is never written shows.
+
+use std::sync::atomic::{AtomicBool, Ordering};
+use twin::diagram::{DiagramAnswer, NodeSlices, PathsAnswer};
+use twin::jobs::Numbers;
+use twin::judge::JudgeAnswer;
+use twin::lent::ReadAnswer;
+use twin::page::ReportAnswer;
+use twin::planner::PlanAnswer;
+
+const UNWRITTEN: u16 = 0xdead;
+const UNWRITTEN_SIZE: usize = 0xdead_dead;
+
+extern "C" {
+    fn vjolthar_read(
+        text: *const u8,
+        text_count: usize,
+        forbidden: *mut u16,
+        forbidden_count: usize,
+        marks: *mut u16,
+        marks_count: usize,
+        names: *mut u8,
+        names_count: usize,
+        place: *mut usize,
+        columns: *mut usize,
+        sets: *mut usize,
+        needs: *mut usize,
+        marked: *mut usize,
+    ) -> u16;
+    fn vjolthar_diagram(
+        columns: usize,
+        forbidden: *const u16,
+        forbidden_count: usize,
+        marks: *const u16,
+        marks_count: usize,
+        chosen: usize,
+        column: *mut u16,
+        column_count: usize,
+        low: *mut u16,
+        low_count: usize,
+        high: *mut u16,
+        high_count: usize,
+        root: *mut u16,
+        count: *mut u16,
+    ) -> u16;
+    fn vjolthar_one_paths(
+        columns: usize,
+        forbidden: *const u16,
+        forbidden_count: usize,
+        marks: *const u16,
+        marks_count: usize,
+        chosen: usize,
+        column: *mut u16,
+        column_count: usize,
+        low: *mut u16,
+        low_count: usize,
+        high: *mut u16,
+        high_count: usize,
+        ones: *mut u16,
+        ones_count: usize,
+        zeros: *mut u16,
+        zeros_count: usize,
+        root: *mut u16,
+        count: *mut u16,
+        paths: *mut u16,
+    ) -> u16;
+    fn vjolthar_judge(
+        columns: usize,
+        forbidden: *const u16,
+        forbidden_count: usize,
+        marks: *const u16,
+        marks_count: usize,
+        split: *const u16,
+        split_count: usize,
+        fault: *mut u16,
+        first: *mut usize,
+        second: *mut usize,
+    ) -> u16;
+    fn vjolthar_plan(
+        columns: usize,
+        forbidden: *const u16,
+        forbidden_count: usize,
+        marks: *const u16,
+        marks_count: usize,
+        extracts: *mut u16,
+        extracts_count: usize,
+        count: *mut u16,
+    ) -> u16;
+    fn vjolthar_report(
+        text: *const u8,
+        text_count: usize,
+        page: *mut u8,
+        page_count: usize,
+        place: *mut usize,
+        length: *mut usize,
+    ) -> u16;
+}
+
+/// An empty slice goes over by turns as the null pointer and as a dangling one: both are allowed.
+fn null_turn(count: usize) -> bool {
+    static TURN: AtomicBool = AtomicBool::new(false);
+    count == 0 && TURN.fetch_xor(true, Ordering::Relaxed)
+}
+
+fn given<T>(slice: &[T]) -> *const T {
+    if null_turn(slice.len()) {
+        std::ptr::null()
+    } else {
+        slice.as_ptr()
+    }
+}
+
+fn lent<T>(slice: &mut [T]) -> *mut T {
+    if null_turn(slice.len()) {
+        std::ptr::null_mut()
+    } else {
+        slice.as_mut_ptr()
+    }
+}
+
+pub fn read(text: &[u8], forbidden: &mut [u16], marks: &mut [u16], names: &mut [u8]) -> ReadAnswer {
+    let [mut place, mut columns, mut sets, mut needs, mut marked] = [UNWRITTEN_SIZE; 5];
+    let refusal = unsafe {
+        vjolthar_read(
+            given(text),
+            text.len(),
+            lent(forbidden),
+            forbidden.len(),
+            lent(marks),
+            marks.len(),
+            lent(names),
+            names.len(),
+            &mut place,
+            &mut columns,
+            &mut sets,
+            &mut needs,
+            &mut marked,
+        )
+    };
+    ReadAnswer {
+        refusal,
+        place,
+        columns,
+        sets,
+        needs,
+        marked,
+    }
+}
+
+pub fn diagram(numbers: Numbers, chosen: usize, nodes: &mut NodeSlices) -> DiagramAnswer {
+    let [mut root, mut count] = [UNWRITTEN; 2];
+    let refusal = unsafe {
+        vjolthar_diagram(
+            numbers.columns,
+            given(numbers.forbidden),
+            numbers.forbidden.len(),
+            given(numbers.marks),
+            numbers.marks.len(),
+            chosen,
+            lent(nodes.column),
+            nodes.column.len(),
+            lent(nodes.low),
+            nodes.low.len(),
+            lent(nodes.high),
+            nodes.high.len(),
+            &mut root,
+            &mut count,
+        )
+    };
+    DiagramAnswer {
+        refusal,
+        root,
+        count,
+    }
+}
+
+pub fn one_paths(
+    numbers: Numbers,
+    chosen: usize,
+    nodes: &mut NodeSlices,
+    ones: &mut [u16],
+    zeros: &mut [u16],
+) -> PathsAnswer {
+    let [mut root, mut count, mut paths] = [UNWRITTEN; 3];
+    let refusal = unsafe {
+        vjolthar_one_paths(
+            numbers.columns,
+            given(numbers.forbidden),
+            numbers.forbidden.len(),
+            given(numbers.marks),
+            numbers.marks.len(),
+            chosen,
+            lent(nodes.column),
+            nodes.column.len(),
+            lent(nodes.low),
+            nodes.low.len(),
+            lent(nodes.high),
+            nodes.high.len(),
+            lent(ones),
+            ones.len(),
+            lent(zeros),
+            zeros.len(),
+            &mut root,
+            &mut count,
+            &mut paths,
+        )
+    };
+    PathsAnswer {
+        refusal,
+        root,
+        count,
+        paths,
+    }
+}
+
+pub fn judge(numbers: Numbers, split: &[u16]) -> JudgeAnswer {
+    let mut fault = UNWRITTEN;
+    let [mut first, mut second] = [UNWRITTEN_SIZE; 2];
+    let refusal = unsafe {
+        vjolthar_judge(
+            numbers.columns,
+            given(numbers.forbidden),
+            numbers.forbidden.len(),
+            given(numbers.marks),
+            numbers.marks.len(),
+            given(split),
+            split.len(),
+            &mut fault,
+            &mut first,
+            &mut second,
+        )
+    };
+    JudgeAnswer {
+        refusal,
+        fault,
+        first,
+        second,
+    }
+}
+
+pub fn plan(numbers: Numbers, extracts: &mut [u16]) -> PlanAnswer {
+    let mut count = UNWRITTEN;
+    let refusal = unsafe {
+        vjolthar_plan(
+            numbers.columns,
+            given(numbers.forbidden),
+            numbers.forbidden.len(),
+            given(numbers.marks),
+            numbers.marks.len(),
+            lent(extracts),
+            extracts.len(),
+            &mut count,
+        )
+    };
+    PlanAnswer { refusal, count }
+}
+
+pub fn report(text: &[u8], page: &mut [u8]) -> ReportAnswer {
+    let [mut place, mut length] = [UNWRITTEN_SIZE; 2];
+    let refusal = unsafe {
+        vjolthar_report(
+            given(text),
+            text.len(),
+            lent(page),
+            page.len(),
+            &mut place,
+            &mut length,
+        )
+    };
+    ReportAnswer {
+        refusal,
+        place,
+        length,
+    }
+}
