@@ -15,6 +15,8 @@ pub enum Outcome {
     /// Refusal 8 of the one-path call with the diagram written.
     TooManyPaths,
     Fault(u16),
+    /// A plan of this many extracts.
+    Plan(u16),
 }
 
 impl Display for Outcome {
@@ -23,6 +25,7 @@ impl Display for Outcome {
             Outcome::Refusal(number) => write!(out, "refusal {number}"),
             Outcome::TooManyPaths => write!(out, "refusal 8 after the diagram"),
             Outcome::Fault(number) => write!(out, "fault {number}"),
+            Outcome::Plan(extracts) => write!(out, "plan of {extracts}"),
         }
     }
 }
@@ -188,7 +191,11 @@ pub fn plan(case: &PlanCase) -> Compared {
     let ours = ours::plan(case.job.numbers(), our_extracts.slice());
     let mut check = Check::new("plan", &twin, &ours);
     check.slice("extracts", &twin_extracts, &our_extracts);
-    check.compared(Outcome::Refusal(twin.refusal), || {
+    let outcome = match twin.refusal {
+        0 => Outcome::Plan(twin.count),
+        refusal => Outcome::Refusal(refusal),
+    };
+    check.compared(outcome, || {
         let length = case.extracts.length();
         format!("{}  slice length {length}\n", case.job.account())
     })

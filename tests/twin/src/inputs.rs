@@ -4,7 +4,7 @@ use crate::cases::{
     DiagramCase, JobCase, JudgeCase, Lent, PathsCase, PlanCase, ReadCase, ReportCase,
 };
 use crate::chance::Chance;
-use crate::{numbers, texts};
+use crate::{numbers, splits, texts};
 use twin::diagram::{one_paths, NodeSlices};
 
 /// A slice that is mostly as long as it has to be or a little longer, at times too short.
@@ -13,11 +13,11 @@ fn lent<T: Copy + PartialEq>(
     enough: usize,
     old: impl Fn(&mut Chance) -> T,
 ) -> Lent<T> {
-    let length = match chance.below(24) {
+    let length = match chance.below(48) {
         0 => enough.saturating_sub(1),
         1 => chance.pick(&[0, 1, enough / 2, enough.saturating_sub(2)]),
-        2..=11 => enough,
-        12..=20 => enough + 1,
+        2..=23 => enough,
+        24..=40 => enough + 1,
         _ => enough + chance.below(100),
     };
     Lent::new(length, || old(chance))
@@ -59,7 +59,7 @@ pub fn diagram(chance: &mut Chance) -> DiagramCase {
 /// One of the needs, "no need", or an index past it.
 fn chosen(chance: &mut Chance, job: &JobCase) -> usize {
     let needs = job.marks.iter().filter(|&&mark| mark == 18).count();
-    match chance.below(12) {
+    match chance.below(20) {
         0 => needs + 1,
         1 => chance.pick(&[9, 18, 65_536, usize::MAX]),
         _ => chance.below(needs + 1),
@@ -94,7 +94,7 @@ fn path_count(case: &DiagramCase) -> usize {
 pub fn judge(chance: &mut Chance) -> JudgeCase {
     let job = numbers::job(chance);
     JudgeCase {
-        split: numbers::split(chance, &job),
+        split: splits::split(chance, &job),
         job,
     }
 }

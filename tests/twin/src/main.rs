@@ -10,13 +10,15 @@ mod inputs;
 mod known;
 mod numbers;
 mod ours;
+mod splits;
 mod texts;
+mod unfit;
 
 use chance::Chance;
 use compare::{Compared, Outcome};
 use std::collections::BTreeMap;
 use std::process::ExitCode;
-use Outcome::{Fault, Refusal, TooManyPaths};
+use Outcome::{Fault, Plan, Refusal, TooManyPaths};
 
 const USUAL_CASES: u64 = 2000;
 const USUAL_SEED: u64 = 20_240_601;
@@ -71,7 +73,20 @@ const CALLS: [Call; 6] = [
         name: "plan",
         inputs: 1,
         compare: |chance| compare::plan(&inputs::plan(chance)),
-        outcomes: &[Refusal(0), Refusal(7), Refusal(8), Refusal(9)],
+        outcomes: &[
+            Plan(0),
+            Plan(1),
+            Plan(2),
+            Plan(3),
+            Plan(4),
+            Plan(5),
+            Plan(6),
+            Plan(7),
+            Plan(8),
+            Refusal(7),
+            Refusal(8),
+            Refusal(9),
+        ],
     },
     Call {
         name: "report",

@@ -1,6 +1,13 @@
 //! Job texts by chance: right ones, ones with a slip in what they say, and damaged ones.
 
+use crate::cases::JobCase;
 use crate::chance::Chance;
+use crate::numbers;
+use twin::sets::members;
+
+const AND: u16 = 16;
+const OR: u16 = 17;
+const END_OF_NEED: u16 = 18;
 
 /// Bytes that mean something to the form, and some that look as if they did.
 const TELLING: &[u8] = b"\n\r\t\0 ,+|&()=az09AZ_-;\x7f\x80\xc3\xa9\xff";
@@ -11,6 +18,10 @@ pub fn text(chance: &mut Chance) -> Vec<u8> {
         0 => noise(chance),
         1 => longest(chance),
         2 => too_long(chance),
+        3..=12 => {
+            let job = numbers::fit(chance);
+            written(chance, &job)
+        }
         _ => {
             let slips = chance.one_in(2);
             Draft::new(chance, slips).text()
@@ -22,6 +33,51 @@ pub fn text(chance: &mut Chance) -> Vec<u8> {
         }
     }
     text
+}
+
+/// The text of a job that is given as numbers; its brackets may be nested too deep.
+fn written(chance: &mut Chance, job: &JobCase) -> Vec<u8> {
+    let mut columns: Vec<Vec<u8>> = Vec::new();
+    while columns.len() < job.columns {
+        let name = name(chance, false);
+        if !columns.contains(&name) {
+            columns.push(name);
+        }
+    }
+    let mut text = [b"columns=", &columns.join(&b',')[..], b"\n"].concat();
+    for &set in &job.forbidden {
+        let names: Vec<Vec<u8>> = members(set).map(|column| columns[column].clone()).collect();
+        text.extend([b"forbid=", &names.join(&b'+')[..], b"\n"].concat());
+    }
+    let needs = job.marks.split_inclusive(|&mark| mark == END_OF_NEED);
+    let lines = job.forbidden.len() + needs.clone().count();
+    for need in needs {
+        text.extend([b"need=", &formula(&columns, need)[..], b"\n"].concat());
+    }
+    text.extend(format!("end={lines}\n").into_bytes());
+    text
+}
+
+/// A need in signs, with brackets wherever the order of the marks would be lost without.
+fn formula(columns: &[Vec<u8>], need: &[u16]) -> Vec<u8> {
+    let mut operands: Vec<(Vec<u8>, u16)> = Vec::new();
+    for &mark in &need[..need.len() - 1] {
+        if mark < AND {
+            operands.push((columns[usize::from(mark)].clone(), mark));
+            continue;
+        }
+        let (mut right, right_mark) = operands.pop().expect("a fit need");
+        let (mut left, left_mark) = operands.pop().expect("a fit need");
+        if mark == AND && left_mark == OR {
+            left = [b"(", &left[..], b")"].concat();
+        }
+        if right_mark >= AND && (mark == AND || right_mark == OR) {
+            right = [b"(", &right[..], b")"].concat();
+        }
+        let sign = if mark == AND { b'&' } else { b'|' };
+        operands.push(([left, right].join(&sign), mark));
+    }
+    operands.pop().expect("a fit need").0
 }
 
 /// A text before it is written down. With slips, faults of every later refusal come in.
