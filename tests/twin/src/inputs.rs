@@ -1,11 +1,9 @@
-//! Inputs of each call by chance: texts and numbers with lent slices of telling lengths.
+//! Makes the input of a call from a text or a job: adds lent slices of telling lengths, filled with
+//! old contents by chance.
 
-use crate::cases::{
-    DiagramCase, JobCase, JudgeCase, Lent, PathsCase, PlanCase, ReadCase, ReportCase,
-};
+use crate::cases::{DiagramCase, JobCase, Lent, PathsCase, PlanCase, ReadCase, ReportCase};
 use crate::chance::Chance;
-use crate::{numbers, splits, texts};
-use twin::diagram::{one_paths, NodeSlices};
+use twin::diagram::NodeSlices;
 
 /// A slice that is mostly as long as it has to be or a little longer, at times too short.
 fn lent<T: Copy + PartialEq>(
@@ -31,24 +29,23 @@ fn lent_bytes(chance: &mut Chance, enough: usize) -> Lent<u8> {
     lent(chance, enough, |chance| chance.number() as u8)
 }
 
-pub fn read(chance: &mut Chance) -> ReadCase {
+pub fn read(chance: &mut Chance, text: Vec<u8>) -> ReadCase {
     ReadCase {
-        text: texts::text(chance),
+        text,
         forbidden: lent_numbers(chance, 32),
         marks: lent_numbers(chance, 512),
         names: lent_bytes(chance, 192),
     }
 }
 
-pub fn report(chance: &mut Chance) -> ReportCase {
+pub fn report(chance: &mut Chance, text: Vec<u8>) -> ReportCase {
     ReportCase {
-        text: texts::text(chance),
+        text,
         page: lent_bytes(chance, 296),
     }
 }
 
-pub fn diagram(chance: &mut Chance) -> DiagramCase {
-    let job = numbers::job(chance);
+pub fn diagram(chance: &mut Chance, job: JobCase) -> DiagramCase {
     DiagramCase {
         chosen: chosen(chance, &job),
         job,
@@ -67,8 +64,8 @@ fn chosen(chance: &mut Chance, job: &JobCase) -> usize {
 }
 
 /// The path slices are as long as there are paths, one less, or some more.
-pub fn one_paths_case(chance: &mut Chance) -> PathsCase {
-    let diagram = diagram(chance);
+pub fn one_paths(chance: &mut Chance, job: JobCase) -> PathsCase {
+    let diagram = diagram(chance, job);
     let paths = path_count(&diagram);
     PathsCase {
         diagram,
@@ -86,22 +83,13 @@ fn path_count(case: &DiagramCase) -> usize {
     };
     let (mut ones, mut zeros) = (vec![0; 32_768], vec![0; 32_768]);
     let numbers = case.job.numbers();
-    one_paths(numbers, case.chosen, &mut nodes, &mut ones, &mut zeros)
-        .paths
-        .into()
+    let answer = twin::diagram::one_paths(numbers, case.chosen, &mut nodes, &mut ones, &mut zeros);
+    answer.paths.into()
 }
 
-pub fn judge(chance: &mut Chance) -> JudgeCase {
-    let job = numbers::job(chance);
-    JudgeCase {
-        split: splits::split(chance, &job),
-        job,
-    }
-}
-
-pub fn plan(chance: &mut Chance) -> PlanCase {
+pub fn plan(chance: &mut Chance, job: JobCase) -> PlanCase {
     PlanCase {
-        job: numbers::job(chance),
+        job,
         extracts: lent_numbers(chance, 8),
     }
 }

@@ -20,7 +20,7 @@ use std::collections::BTreeMap;
 use std::process::ExitCode;
 use Outcome::{Fault, Plan, Refusal, TooManyPaths};
 
-const USUAL_CASES: u64 = 2000;
+const USUAL_CASES: u64 = 4000;
 const USUAL_SEED: u64 = 20_240_601;
 
 /// A call to be compared.
@@ -48,31 +48,46 @@ const CALLS: [Call; 6] = [
     Call {
         name: "read",
         inputs: 40,
-        compare: |chance| compare::read(&inputs::read(chance)),
+        compare: |chance| {
+            let text = texts::text(chance);
+            compare::read(&inputs::read(chance, text))
+        },
         outcomes: TEXT_OUTCOMES,
     },
     Call {
         name: "diagram",
-        inputs: 1,
-        compare: |chance| compare::diagram(&inputs::diagram(chance)),
+        inputs: 2,
+        compare: |chance| {
+            let job = numbers::job(chance);
+            compare::diagram(&inputs::diagram(chance, job))
+        },
         outcomes: &[Refusal(0), Refusal(7), Refusal(8)],
     },
     Call {
         name: "one_paths",
-        inputs: 1,
-        compare: |chance| compare::one_paths(&inputs::one_paths_case(chance)),
+        inputs: 2,
+        compare: |chance| {
+            let job = numbers::job(chance);
+            compare::one_paths(&inputs::one_paths(chance, job))
+        },
         outcomes: &[Refusal(0), Refusal(7), Refusal(8), TooManyPaths],
     },
     Call {
         name: "judge",
         inputs: 4,
-        compare: |chance| compare::judge(&inputs::judge(chance)),
+        compare: |chance| {
+            let job = numbers::job(chance);
+            compare::judge(&splits::judged(chance, job))
+        },
         outcomes: &[Refusal(7), Fault(0), Fault(1), Fault(2), Fault(3), Fault(4)],
     },
     Call {
         name: "plan",
-        inputs: 1,
-        compare: |chance| compare::plan(&inputs::plan(chance)),
+        inputs: 2,
+        compare: |chance| {
+            let job = numbers::job(chance);
+            compare::plan(&inputs::plan(chance, job))
+        },
         outcomes: &[
             Plan(0),
             Plan(1),
@@ -91,7 +106,10 @@ const CALLS: [Call; 6] = [
     Call {
         name: "report",
         inputs: 4,
-        compare: |chance| compare::report(&inputs::report(chance)),
+        compare: |chance| {
+            let text = texts::text(chance);
+            compare::report(&inputs::report(chance, text))
+        },
         outcomes: &[
             Refusal(0),
             Refusal(1),
@@ -129,8 +147,8 @@ fn main() -> ExitCode {
     for (name, right) in known::cases() {
         tell(&name, right);
     }
-    for call in CALLS {
-        tell(call.name, run.agree(&call));
+    for place in 0..CALLS.len() {
+        tell(CALLS[place].name, run.agree(place));
     }
     println!("{passed} passed, {failed} failed");
     ExitCode::from(u8::from(failed > 0))
@@ -154,11 +172,14 @@ fn asked(arguments: &[String]) -> Option<Run> {
 
 impl Run {
     /// Compares one call on all its inputs and prints what was met.
-    fn agree(&self, call: &Call) -> bool {
+    fn agree(&self, place: usize) -> bool {
+        let call = &CALLS[place];
         let mut met: BTreeMap<Outcome, u64> = BTreeMap::new();
         let inputs = self.cases.saturating_mul(call.inputs);
         for input in 0..inputs {
-            match (call.compare)(&mut Chance::new(self.seed, input)) {
+            // The place of the call goes in as well, so that no two calls get the same jobs.
+            let case = input * CALLS.len() as u64 + place as u64;
+            match (call.compare)(&mut Chance::new(self.seed, case)) {
                 Ok(outcome) => *met.entry(outcome).or_default() += 1,
                 Err(account) => {
                     println!("{account}  seed {}, input {input}", self.seed);

@@ -1,23 +1,28 @@
 //! Splits by chance for the judge.
 
-use crate::cases::JobCase;
+use crate::cases::{JobCase, JudgeCase};
 use crate::chance::Chance;
 use twin::planner::best_split;
 
-/// A split for the judge: the plan itself, nearly the plan, or any numbers.
-pub fn split(chance: &mut Chance, job: &JobCase) -> Vec<u16> {
-    let planned = job.numbers().job().and_then(|fit| best_split(&fit));
-    match (planned, chance.below(4)) {
-        (Some(plan), 0) => plan,
-        (Some(plan), 1 | 2) => perturbed(chance, plan),
+/// A job with the plan itself, with nearly the plan, or with any numbers.
+pub fn judged(chance: &mut Chance, job: JobCase) -> JudgeCase {
+    let split = match chance.below(6) {
+        0 => planned(&job),
+        1 | 2 => perturbed(chance, planned(&job)),
         _ => {
             let count = chance.pick(&[0, 1, 2, 3, 8, 9, 200]);
             let wild = chance.one_in(3);
-            (0..count)
-                .map(|_| any_set(chance, job.columns, wild))
-                .collect()
+            let sets = std::iter::repeat_with(|| any_set(chance, job.columns, wild));
+            sets.take(count).collect()
         }
-    }
+    };
+    JudgeCase { job, split }
+}
+
+/// The plan, or no extract at all where there is none.
+fn planned(job: &JobCase) -> Vec<u16> {
+    let fit = job.numbers().job();
+    fit.and_then(|fit| best_split(&fit)).unwrap_or_default()
 }
 
 fn any_set(chance: &mut Chance, columns: usize, wild: bool) -> u16 {
