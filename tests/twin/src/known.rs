@@ -1,5 +1,7 @@
 //! The paper's own cases, tried on the twin alone: a twin that is wrong would prove nothing.
 
+use differential::chance::Chance;
+use differential::texts::longest;
 use twin::diagram::{one_paths, NodeSlices};
 use twin::jobs::Numbers;
 use twin::page::report;
@@ -200,7 +202,7 @@ fn texts() -> Vec<(Vec<u8>, u16, usize)> {
     ]
     .map(|(text, refusal, place)| (text.as_bytes().to_vec(), refusal, place))
     .into();
-    let mut longest = crate::texts::longest(&mut crate::chance::Chance::new(0, 0));
+    let mut longest = longest(&mut Chance::new(0, 0));
     texts.push((longest.clone(), 0, 0));
     longest.push(b'\n');
     texts.push((longest, 1, 8192));

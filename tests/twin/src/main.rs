@@ -3,22 +3,14 @@
 //! `twin [CASES [SEED]]`. The last line is 'N passed, M failed', where each call that is compared
 //! and each known case of the twin counts once, however many inputs were tried.
 
-mod cases;
-mod chance;
-mod compare;
-mod inputs;
 mod known;
-mod numbers;
-mod ours;
-mod splits;
-mod texts;
-mod unfit;
 
-use chance::Chance;
-use compare::{Compared, Outcome};
+use differential::chance::Chance;
+use differential::compare::Outcome::{self, Fault, Plan, Refusal, TooManyPaths};
+use differential::compare::{self, Compared};
+use differential::{inputs, numbers, splits, texts};
 use std::collections::BTreeMap;
 use std::process::ExitCode;
-use Outcome::{Fault, Plan, Refusal, TooManyPaths};
 
 const USUAL_CASES: u64 = 4000;
 const USUAL_SEED: u64 = 20_240_601;

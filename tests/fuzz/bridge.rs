@@ -1,0 +1,42 @@
+//! The fuzzer's bytes as inputs of all six calls: the library and its twin have to agree on each.
+//!
+//! The only `unsafe` of this folder is here, where the bytes come in by pointer and length.
+
+mod bytes;
+
+use differential::chance::Chance;
+use differential::{compare, inputs};
+
+/// Compares all six calls on inputs made of these bytes; answers 0 exactly if they agree.
+///
+/// # Safety
+/// `data` points to `count` bytes.
+#[no_mangle]
+pub unsafe extern "C" fn twin_compare(data: *const u8, count: usize) -> i32 {
+    // No bytes may come with a null pointer, which a slice must not have.
+    let data = match count {
+        0 => &[],
+        _ => unsafe { std::slice::from_raw_parts(data, count) },
+    };
+    match agree(data) {
+        Ok(()) => 0,
+        Err(account) => {
+            eprintln!("{account}");
+            1
+        }
+    }
+}
+
+fn agree(data: &[u8]) -> Result<(), String> {
+    // Slice lengths and old contents hang on the bytes alone, so that a found input stays one.
+    let sum = data.iter().map(|&byte| u64::from(byte)).sum();
+    let chance = &mut Chance::new(sum, data.len() as u64);
+    compare::read(&inputs::read(chance, data.to_vec()))?;
+    compare::report(&inputs::report(chance, data.to_vec()))?;
+    let judged = bytes::judged(data);
+    compare::judge(&judged)?;
+    compare::plan(&inputs::plan(chance, judged.job.clone()))?;
+    compare::diagram(&inputs::diagram(chance, judged.job.clone()))?;
+    compare::one_paths(&inputs::one_paths(chance, judged.job))?;
+    Ok(())
+}
