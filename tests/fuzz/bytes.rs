@@ -61,7 +61,7 @@ fn fit(columns: usize, forbidden: Vec<u16>, bytes: impl Iterator<Item = u8>) -> 
                 operands -= 1;
             }
             240.. if operands > 0 && needs < 8 => {
-                marks.extend(std::iter::repeat_n(AND, operands - 1));
+                marks.extend(vec![AND; operands - 1]);
                 marks.push(END_OF_NEED);
                 needs += 1;
                 (operands, names) = (0, 0);

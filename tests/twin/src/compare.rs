@@ -117,7 +117,8 @@ fn nodes_differ(check: &mut Check, twin: &[Lent<u16>; 3], ours: &[Lent<u16>; 3])
 }
 
 fn diagram_account(case: &DiagramCase) -> String {
-    let lengths = case.nodes.each_ref().map(Lent::length);
+    let [column, low, high] = &case.nodes;
+    let lengths = [column, low, high].map(Lent::length);
     format!(
         "{}  chosen {}\n  node slice lengths {lengths:?}\n",
         case.job.account(),

@@ -4,6 +4,8 @@
 pub mod cases;
 pub mod chance;
 pub mod compare;
+pub mod damage;
+pub mod drafts;
 pub mod inputs;
 pub mod numbers;
 pub mod ours;

@@ -13,26 +13,31 @@ pub struct JudgeAnswer {
 
 /// Judges a list of extracts.
 pub fn judge(numbers: Numbers, split: &[u16]) -> JudgeAnswer {
-    let Some(job) = numbers.job() else {
-        return JudgeAnswer {
+    match numbers.job() {
+        None => JudgeAnswer {
             refusal: 7,
             ..JudgeAnswer::default()
-        };
-    };
-    let (fault, first, second) = stray(&job, split)
-        .or_else(|| forbidden(&job, split))
-        .or_else(|| sharing(split))
-        .or_else(|| unmet(&job, split))
-        .unwrap_or((0, 0, 0));
-    JudgeAnswer {
-        refusal: 0,
-        fault,
-        first,
-        second,
+        },
+        Some(job) => {
+            let (fault, first, second) = first_fault(&job, split).unwrap_or_default();
+            JudgeAnswer {
+                refusal: 0,
+                fault,
+                first,
+                second,
+            }
+        }
     }
 }
 
 type Fault = Option<(u16, usize, usize)>;
+
+fn first_fault(job: &Job, split: &[u16]) -> Fault {
+    stray(job, split)
+        .or_else(|| forbidden(job, split))
+        .or_else(|| sharing(split))
+        .or_else(|| unmet(job, split))
+}
 
 fn stray(job: &Job, split: &[u16]) -> Fault {
     let all = sets::full(job.columns);

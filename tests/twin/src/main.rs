@@ -25,17 +25,6 @@ struct Call {
     outcomes: &'static [Outcome],
 }
 
-const TEXT_OUTCOMES: &[Outcome] = &[
-    Refusal(0),
-    Refusal(1),
-    Refusal(2),
-    Refusal(3),
-    Refusal(4),
-    Refusal(5),
-    Refusal(6),
-    Refusal(8),
-];
-
 const CALLS: [Call; 6] = [
     Call {
         name: "read",
@@ -44,7 +33,16 @@ const CALLS: [Call; 6] = [
             let text = texts::text(chance);
             compare::read(&inputs::read(chance, text))
         },
-        outcomes: TEXT_OUTCOMES,
+        outcomes: &[
+            Refusal(0),
+            Refusal(1),
+            Refusal(2),
+            Refusal(3),
+            Refusal(4),
+            Refusal(5),
+            Refusal(6),
+            Refusal(8),
+        ],
     },
     Call {
         name: "diagram",
@@ -124,28 +122,14 @@ struct Run {
 }
 
 fn main() -> ExitCode {
-    let Some(run) = asked(&std::env::args().skip(1).collect::<Vec<_>>()) else {
-        eprintln!("twin: the arguments are [CASES [SEED]], both numbers, CASES not 0");
-        return ExitCode::from(2);
-    };
-    let mut passed = 0;
-    let mut failed = 0;
-    let mut tell = |name: &str, right: bool| {
-        *(if right { &mut passed } else { &mut failed }) += 1;
-        if !right {
-            println!("twin: {name}: NOT AS EXPECTED");
+    match asked(&std::env::args().skip(1).collect::<Vec<_>>()) {
+        Some(run) => run.all(),
+        None => {
+            eprintln!("twin: the arguments are [CASES [SEED]], both numbers, CASES not 0");
+            ExitCode::from(2)
         }
-    };
-    for (name, right) in known::cases() {
-        tell(&name, right);
     }
-    for place in 0..CALLS.len() {
-        tell(CALLS[place].name, run.agree(place));
-    }
-    println!("{passed} passed, {failed} failed");
-    ExitCode::from(u8::from(failed > 0))
 }
-
 fn asked(arguments: &[String]) -> Option<Run> {
     if arguments.len() > 2 {
         return None;
@@ -163,9 +147,23 @@ fn asked(arguments: &[String]) -> Option<Run> {
 }
 
 impl Run {
+    /// The known cases, then all calls; prints how many passed.
+    fn all(&self) -> ExitCode {
+        let mut results = known::cases();
+        for (place, call) in CALLS.iter().enumerate() {
+            results.push((call.name.to_string(), self.agree(place, call)));
+        }
+        let failed: Vec<_> = results.iter().filter(|(_, right)| !right).collect();
+        for (name, _) in &failed {
+            println!("twin: {name}: NOT AS EXPECTED");
+        }
+        let passed = results.len() - failed.len();
+        println!("{passed} passed, {} failed", failed.len());
+        ExitCode::from(u8::from(!failed.is_empty()))
+    }
+
     /// Compares one call on all its inputs and prints what was met.
-    fn agree(&self, place: usize) -> bool {
-        let call = &CALLS[place];
+    fn agree(&self, place: usize, call: &Call) -> bool {
         let mut met: BTreeMap<Outcome, u64> = BTreeMap::new();
         let inputs = self.cases.saturating_mul(call.inputs);
         for input in 0..inputs {

@@ -26,21 +26,24 @@ pub struct PlanAnswer {
 
 /// Plans a split into the first places of the lent slice.
 pub fn plan(numbers: Numbers, extracts: &mut [u16]) -> PlanAnswer {
-    let refused = |refusal| PlanAnswer { refusal, count: 0 };
-    let Some(job) = numbers.job() else {
-        return refused(7);
-    };
-    if extracts.len() < MOST_EXTRACTS {
-        return refused(8);
+    match planned(numbers, extracts.len()) {
+        Err(refusal) => PlanAnswer { refusal, count: 0 },
+        Ok(split) => {
+            extracts[..split.len()].copy_from_slice(&split);
+            PlanAnswer {
+                refusal: 0,
+                count: split.len() as u16,
+            }
+        }
     }
-    let Some(split) = best_split(&job) else {
-        return refused(9);
-    };
-    extracts[..split.len()].copy_from_slice(&split);
-    PlanAnswer {
-        refusal: 0,
-        count: split.len() as u16,
+}
+
+fn planned(numbers: Numbers, places: usize) -> Result<Vec<u16>, u16> {
+    let job = numbers.job().ok_or(7u16)?;
+    if places < MOST_EXTRACTS {
+        return Err(8);
     }
+    best_split(&job).ok_or(9)
 }
 
 /// The best split in rising order, or nothing if there is no correct one.
@@ -131,7 +134,8 @@ impl Search {
                     used: state.used | extract,
                     count: state.count - 1,
                 };
-                keep_least(&mut best, self.best(after).map(|plan| plan.with(extract)));
+                let plan = self.best(after).map(|rest| rest.with(extract));
+                best = best.into_iter().chain(plan).min();
             }
         }
         self.known.insert(state, best.clone());
@@ -173,14 +177,6 @@ impl Plan {
         Plan {
             columns: self.columns + extract.count_ones(),
             extracts,
-        }
-    }
-}
-
-fn keep_least(best: &mut Option<Plan>, other: Option<Plan>) {
-    if let Some(other) = other {
-        if best.as_ref().is_none_or(|best| other < *best) {
-            *best = Some(other);
         }
     }
 }

@@ -226,10 +226,10 @@ impl<'text> Reader<'text> {
 
     fn name(&mut self) -> Formed<&'text [u8]> {
         let start = self.at;
-        if !self.peek().is_some_and(|byte| byte.is_ascii_lowercase()) {
+        if !matches!(self.peek(), Some(b'a'..=b'z')) {
             return Err(start);
         }
-        while self.peek().is_some_and(is_name_byte) {
+        while matches!(self.peek(), Some(b'a'..=b'z' | b'0'..=b'9')) {
             if self.at == start + LONGEST_NAME {
                 return Err(self.at);
             }
@@ -240,7 +240,7 @@ impl<'text> Reader<'text> {
 
     fn end_number(&mut self) -> Formed<usize> {
         let first = self.digit()?;
-        if first == 0 || !self.peek().is_some_and(|byte| byte.is_ascii_digit()) {
+        if first == 0 || !matches!(self.peek(), Some(b'0'..=b'9')) {
             return Ok(first);
         }
         Ok(10 * first + self.digit()?)
@@ -248,7 +248,7 @@ impl<'text> Reader<'text> {
 
     fn digit(&mut self) -> Formed<usize> {
         match self.peek() {
-            Some(byte) if byte.is_ascii_digit() => {
+            Some(byte @ b'0'..=b'9') => {
                 self.at += 1;
                 Ok(usize::from(byte - b'0'))
             }
@@ -285,8 +285,4 @@ impl<'text> Reader<'text> {
     fn note_name(&mut self, refusal: u16, place: usize) {
         self.bad_name.get_or_insert((refusal, place));
     }
-}
-
-fn is_name_byte(byte: u8) -> bool {
-    byte.is_ascii_lowercase() || byte.is_ascii_digit()
 }

@@ -61,8 +61,8 @@ fn many_needs(chance: &mut Chance, marks: &mut Vec<u16>) {
 fn many_names(chance: &mut Chance, marks: &mut Vec<u16>) {
     let names = chance.pick(&[32, 33, 34, 64]);
     if chance.one_in(2) {
-        marks.extend(std::iter::repeat_n(0, names));
-        marks.extend(std::iter::repeat_n(OR, names - 1));
+        marks.extend(vec![0; names]);
+        marks.extend(vec![OR; names - 1]);
     } else {
         marks.push(0);
         marks.extend([0, AND].repeat(names - 1));
