@@ -65,10 +65,12 @@ fn clashing(chance: &mut Chance) -> JobCase {
     if columns > 4 {
         forbidden.extend(repeated(more, || set(chance, columns, 4) | 1 << order[0]));
     }
+    // Bare needs can't avoid the clash, and so lead to as many extracts as clash.
+    let bare = chance.one_in(4);
     let mut marks = Vec::new();
     for place in 0..chance.from_to(clashing, 8) {
         marks.push(order[place % clashing]);
-        if chance.one_in(2) {
+        if !bare && chance.one_in(2) {
             need(chance, columns, 3, &mut marks);
             marks.push(chance.pick(&[AND, OR, OR]));
         }
