@@ -2,6 +2,8 @@
 //!
 //! The only `unsafe` of this folder is here, where the bytes come in by pointer and length.
 
+#![deny(unsafe_op_in_unsafe_fn)]
+
 mod bytes;
 
 use differential::chance::Chance;

@@ -1,11 +1,8 @@
-//! Bytes as a job in numbers with a split: every job can be reached, and every second first byte
-//! gives a fit one, since bytes by chance would hardly ever do.
+//! Bytes as a job in numbers with a split. An even first byte gives a fit job, since numbers by
+//! chance hardly ever are one.
 
 use differential::cases::{JobCase, JudgeCase};
-
-const AND: u16 = 16;
-const OR: u16 = 17;
-const END_OF_NEED: u16 = 18;
+use twin::text::{AND, END_OF_NEED, OR};
 
 /// The job and the split these bytes stand for.
 pub fn judged(data: &[u8]) -> JudgeCase {

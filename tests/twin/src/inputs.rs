@@ -4,6 +4,7 @@
 use crate::cases::{DiagramCase, JobCase, Lent, PathsCase, PlanCase, ReadCase, ReportCase};
 use crate::chance::Chance;
 use twin::diagram::NodeSlices;
+use twin::text::END_OF_NEED;
 
 /// A slice that is mostly as long as it has to be or a little longer, at times too short.
 fn lent<T: Copy + PartialEq>(
@@ -55,7 +56,11 @@ pub fn diagram(chance: &mut Chance, job: JobCase) -> DiagramCase {
 
 /// One of the needs, "no need", or an index past it.
 fn chosen(chance: &mut Chance, job: &JobCase) -> usize {
-    let needs = job.marks.iter().filter(|&&mark| mark == 18).count();
+    let needs = job
+        .marks
+        .iter()
+        .filter(|&&mark| mark == END_OF_NEED)
+        .count();
     match chance.below(20) {
         0 => needs + 1,
         1 => chance.pick(&[9, 18, 65_536, usize::MAX]),

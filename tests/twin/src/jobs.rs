@@ -1,10 +1,7 @@
 //! A job as numbers: whether the numbers are fit, and which sets of columns meet a need.
 
 use crate::sets;
-
-const AND: u16 = 16;
-const OR: u16 = 17;
-const END_OF_NEED: u16 = 18;
+use crate::text::{AND, END_OF_NEED, OR};
 
 /// The three parts of a job as they come in; nothing is known of them yet.
 #[derive(Clone, Copy, Debug)]

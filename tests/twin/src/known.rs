@@ -6,11 +6,8 @@ use twin::diagram::{one_paths, NodeSlices};
 use twin::jobs::Numbers;
 use twin::page::report;
 use twin::planner::plan;
-use twin::text::read;
+use twin::text::{read, AND, END_OF_NEED as END, OR};
 
-const AND: u16 = 16;
-const OR: u16 = 17;
-const END: u16 = 18;
 const OLD: u16 = 77;
 
 /// Every known case: what it is and whether the twin is right about it.

@@ -3,10 +3,7 @@
 use crate::cases::JobCase;
 use crate::chance::Chance;
 use crate::unfit::spoil;
-
-const AND: u16 = 16;
-const OR: u16 = 17;
-const END_OF_NEED: u16 = 18;
+use twin::text::{AND, END_OF_NEED, OR};
 
 /// A job as numbers, mostly fit.
 pub fn job(chance: &mut Chance) -> JobCase {

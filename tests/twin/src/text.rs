@@ -12,9 +12,10 @@ const MOST_NEEDS: usize = 8;
 const MOST_NAMES_IN_A_NEED: usize = 32;
 const DEEPEST_BRACKET: usize = 8;
 
-const AND: u16 = 16;
-const OR: u16 = 17;
-const END_OF_NEED: u16 = 18;
+/// The marks that are no columns.
+pub const AND: u16 = 16;
+pub const OR: u16 = 17;
+pub const END_OF_NEED: u16 = 18;
 
 /// What a job text says. After a refusal there are no columns, sets, marks or names.
 #[derive(Clone, Debug, Default, PartialEq, Eq)]

@@ -6,10 +6,7 @@ use crate::damage::{damage, TELLING};
 use crate::drafts::{name, Draft};
 use crate::numbers;
 use twin::sets::members;
-
-const AND: u16 = 16;
-const OR: u16 = 17;
-const END_OF_NEED: u16 = 18;
+use twin::text::{AND, END_OF_NEED, OR};
 
 /// A job text of any kind.
 pub fn text(chance: &mut Chance) -> Vec<u8> {

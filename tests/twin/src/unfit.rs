@@ -2,10 +2,7 @@
 
 use crate::cases::JobCase;
 use crate::chance::Chance;
-
-const AND: u16 = 16;
-const OR: u16 = 17;
-const END_OF_NEED: u16 = 18;
+use twin::text::{AND, END_OF_NEED, OR};
 
 /// Breaks one clause of what makes numbers fit; now and then the numbers stay fit.
 pub fn spoil(chance: &mut Chance, job: &mut JobCase) {
