@@ -1,6 +1,6 @@
 //! The library under test, called through its C interface.
 //!
-//! This is the only file with `unsafe`: every wrapper hands over slices by pointer and length, as a
+//! The only `unsafe` of this folder is here: every wrapper hands over slices by pointer and length, as a
 //! C program would. The numbers to be answered start with a value that no answer has, so that a
 //! number which is never written shows.
 
