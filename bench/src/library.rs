@@ -1,6 +1,11 @@
 //! The measured library: its C interface, called in this process, with every slice lent once.
 
-use std::os::raw::c_ushort;
+// Not every function is measured.
+#[allow(dead_code)]
+#[path = "../../include/vjolthar.rs"]
+mod vjolthar;
+
+use vjolthar::{vjolthar_diagram, vjolthar_one_paths, vjolthar_plan, vjolthar_read};
 
 pub const MOST_FORBIDDEN: usize = 32;
 pub const MOST_MARKS: usize = 512;
@@ -11,78 +16,6 @@ pub const MOST_PATHS: usize = 32768;
 
 /// The refusal of a job that has no correct split.
 pub const NO_CORRECT_SPLIT: u16 = 9;
-
-extern "C" {
-    #[rustfmt::skip]
-    fn vjolthar_read(
-        text: *const u8,
-        text_count: usize,
-        forbidden: *mut u16,
-        forbidden_count: usize,
-        marks: *mut u16,
-        marks_count: usize,
-        names: *mut u8,
-        names_count: usize,
-        place: *mut usize,
-        columns: *mut usize,
-        sets: *mut usize,
-        needs: *mut usize,
-        marked: *mut usize,
-    ) -> c_ushort;
-
-    #[rustfmt::skip]
-    fn vjolthar_diagram(
-        columns: usize,
-        forbidden: *const u16,
-        forbidden_count: usize,
-        marks: *const u16,
-        marks_count: usize,
-        chosen: usize,
-        column: *mut u16,
-        column_count: usize,
-        low: *mut u16,
-        low_count: usize,
-        high: *mut u16,
-        high_count: usize,
-        root: *mut u16,
-        count: *mut u16,
-    ) -> c_ushort;
-
-    #[rustfmt::skip]
-    fn vjolthar_one_paths(
-        columns: usize,
-        forbidden: *const u16,
-        forbidden_count: usize,
-        marks: *const u16,
-        marks_count: usize,
-        chosen: usize,
-        column: *mut u16,
-        column_count: usize,
-        low: *mut u16,
-        low_count: usize,
-        high: *mut u16,
-        high_count: usize,
-        ones: *mut u16,
-        ones_count: usize,
-        zeros: *mut u16,
-        zeros_count: usize,
-        root: *mut u16,
-        count: *mut u16,
-        paths: *mut u16,
-    ) -> c_ushort;
-
-    #[rustfmt::skip]
-    fn vjolthar_plan(
-        columns: usize,
-        forbidden: *const u16,
-        forbidden_count: usize,
-        marks: *const u16,
-        marks_count: usize,
-        extracts: *mut u16,
-        extracts_count: usize,
-        count: *mut u16,
-    ) -> c_ushort;
-}
 
 /// A job as numbers.
 #[derive(Clone, PartialEq, Debug)]

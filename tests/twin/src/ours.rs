@@ -4,6 +4,9 @@
 //! C program would. The numbers to be answered start with a value that no answer has, so that a
 //! number which is never written shows.
 
+#[path = "../../../include/vjolthar.rs"]
+mod vjolthar;
+
 use std::sync::atomic::{AtomicBool, Ordering};
 use twin::diagram::{DiagramAnswer, NodeSlices, PathsAnswer};
 use twin::jobs::Numbers;
@@ -11,94 +14,10 @@ use twin::judge::JudgeAnswer;
 use twin::lent::ReadAnswer;
 use twin::page::ReportAnswer;
 use twin::planner::PlanAnswer;
+use vjolthar::*;
 
 const UNWRITTEN: u16 = 0xdead;
 const UNWRITTEN_SIZE: usize = 0xdead_dead;
-
-extern "C" {
-    fn vjolthar_read(
-        text: *const u8,
-        text_count: usize,
-        forbidden: *mut u16,
-        forbidden_count: usize,
-        marks: *mut u16,
-        marks_count: usize,
-        names: *mut u8,
-        names_count: usize,
-        place: *mut usize,
-        columns: *mut usize,
-        sets: *mut usize,
-        needs: *mut usize,
-        marked: *mut usize,
-    ) -> u16;
-    fn vjolthar_diagram(
-        columns: usize,
-        forbidden: *const u16,
-        forbidden_count: usize,
-        marks: *const u16,
-        marks_count: usize,
-        chosen: usize,
-        column: *mut u16,
-        column_count: usize,
-        low: *mut u16,
-        low_count: usize,
-        high: *mut u16,
-        high_count: usize,
-        root: *mut u16,
-        count: *mut u16,
-    ) -> u16;
-    fn vjolthar_one_paths(
-        columns: usize,
-        forbidden: *const u16,
-        forbidden_count: usize,
-        marks: *const u16,
-        marks_count: usize,
-        chosen: usize,
-        column: *mut u16,
-        column_count: usize,
-        low: *mut u16,
-        low_count: usize,
-        high: *mut u16,
-        high_count: usize,
-        ones: *mut u16,
-        ones_count: usize,
-        zeros: *mut u16,
-        zeros_count: usize,
-        root: *mut u16,
-        count: *mut u16,
-        paths: *mut u16,
-    ) -> u16;
-    fn vjolthar_judge(
-        columns: usize,
-        forbidden: *const u16,
-        forbidden_count: usize,
-        marks: *const u16,
-        marks_count: usize,
-        split: *const u16,
-        split_count: usize,
-        fault: *mut u16,
-        first: *mut usize,
-        second: *mut usize,
-    ) -> u16;
-    fn vjolthar_plan(
-        columns: usize,
-        forbidden: *const u16,
-        forbidden_count: usize,
-        marks: *const u16,
-        marks_count: usize,
-        extracts: *mut u16,
-        extracts_count: usize,
-        count: *mut u16,
-    ) -> u16;
-    fn vjolthar_report(
-        text: *const u8,
-        text_count: usize,
-        page: *mut u8,
-        page_count: usize,
-        place: *mut usize,
-        length: *mut usize,
-    ) -> u16;
-}
 
 /// An empty slice goes over by turns as the null pointer and as a dangling one: both are allowed.
 fn null_turn(count: usize) -> bool {
