@@ -62,7 +62,7 @@ fn row(
     vec![
         name.to_string(),
         format!("{}{need}", job.name),
-        format!("{} {counted}", commas(u64::from(count))),
+        format!("{counted}: {}", commas(u64::from(count))),
         Spread::new(times).shown(),
     ]
 }
