@@ -1,5 +1,27 @@
-//! Vjolthar for Rust: the functions of vjolthar.h, which says what each promises. A program takes this file in as a module and links with
-//! `-l static=vjolthar`.
+//! Vjolthar for Rust, edition 2021: the functions and numbers of vjolthar.h, which says what each promises. A program takes this file in as a module and
+//! links with `-l static=vjolthar`.
+#![allow(dead_code)] // a program uses what it needs
+
+pub const TEXT: usize = 8192;
+pub const COLUMNS: usize = 16;
+pub const FORBIDDEN: usize = 32;
+pub const MARKS: usize = 512;
+pub const NAME_BYTES: usize = 12;
+pub const NAMES: usize = 192;
+pub const NODES: usize = 8445;
+pub const PATHS: usize = 32_768;
+pub const EXTRACTS: usize = 8;
+pub const PAGE: usize = 296;
+
+pub const AND: u16 = 16;
+pub const OR: u16 = 17;
+pub const END: u16 = 18;
+
+pub const RIGHT: u16 = 0;
+pub const IMPROPER: u16 = 1;
+pub const FORBIDS: u16 = 2;
+pub const SHARES: u16 = 3;
+pub const UNMET: u16 = 4;
 
 extern "C" {
     pub fn vjolthar_read(

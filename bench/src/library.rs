@@ -1,7 +1,5 @@
 //! The measured library: its C interface, called in this process, with every slice lent once.
 
-// Not every function is measured.
-#[allow(dead_code)]
 #[path = "../../include/vjolthar.rs"]
 mod vjolthar;
 
