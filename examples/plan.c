@@ -4,7 +4,7 @@
 #include "vjolthar.h"
 
 int main(void) {
-    uint8_t text[8193], names[VJOLTHAR_NAMES];
+    uint8_t text[VJOLTHAR_TEXT + 1], names[VJOLTHAR_NAMES];
     uint16_t forbidden[VJOLTHAR_FORBIDDEN], marks[VJOLTHAR_MARKS], extracts[VJOLTHAR_EXTRACTS], count;
     size_t length = fread(text, 1, sizeof text, stdin), place, columns, sets, needs, marked;
     unsigned refusal = vjolthar_read(text, length, forbidden, VJOLTHAR_FORBIDDEN, marks, VJOLTHAR_MARKS,

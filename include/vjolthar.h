@@ -2,14 +2,16 @@
  * Vjolthar decides which columns of a register may leave the office together.
  *
  * The same words stand in docs/PROMISES.md, "The C interface", with the
- * definitions and proofs behind them.
+ * definitions and proofs behind them. docs/MANUAL.md has the form of a job text
+ * and of the page that the program split prints for it.
  *
  * Every function takes numbers and slices and returns a refusal's number, or 0
  * if nothing is refused. A slice is a pointer to its first place and the count
  * of its places; with the count 0 the pointer is not looked at and may be NULL.
  * A slice that is const is read only; the others are lent to be written. The
  * numbers of the answer are written through the pointers that come last,
- * refused or not; these are never NULL.
+ * refused or not; these are never NULL. A constant here is the most that there
+ * can be of a thing, and a slice of as many places has room for it.
  *
  * Any numbers and any bytes may come. For every input the answer and every
  * place of every lent slice afterwards is determined; places of which nothing
@@ -21,10 +23,17 @@
  * the same time. A call needs less than 256 KiB of stack; that is tried and not
  * proved.
  *
- * The numbers of a job are the number of columns (1 to 16), the forbidden sets
- * (0 to 32; column i is bit i of a set) and the marks of the needs: operands
- * before their join, 0 to 15 a column, 16 and, 17 or, 18 the end of a need
- * (0 to 8 needs, 1 to 32 columns in each). All others are unfit.
+ * The numbers of a job are the number of columns; the forbidden sets, where
+ * column i is bit i of a set; and the marks of the needs, operands before their
+ * join: 0 to 15 a column, 16 and, 17 or, 18 the end of a need. They are unfit
+ * exactly if there is no column or there are over 16; over 32 sets; a set that
+ * is empty or has a column that isn't there; marks behind the last 18; a need
+ * without a mark, with a join that finds fewer than two operands before it, or
+ * with more than one operand left; a mark over 18 or of a column that isn't
+ * there; over 32 column marks in a need; or over 8 needs.
+ *
+ * A split is a list of sets, its extracts. It is correct exactly if
+ * vjolthar_judge calls it right.
  *
  * Refusals:
  * 1 a text over 8,192 bytes; 2 a text not of the form; 3 too many columns,
@@ -43,14 +52,22 @@ extern "C" {
 #endif
 
 enum {
+    VJOLTHAR_TEXT = 8192,
     VJOLTHAR_COLUMNS = 16,
     VJOLTHAR_FORBIDDEN = 32,
     VJOLTHAR_MARKS = 512,
     VJOLTHAR_NAME_BYTES = 12,
     VJOLTHAR_NAMES = 192,
     VJOLTHAR_NODES = 8445,
+    VJOLTHAR_PATHS = 32768,
     VJOLTHAR_EXTRACTS = 8,
     VJOLTHAR_PAGE = 296
+};
+
+enum {
+    VJOLTHAR_AND = 16,
+    VJOLTHAR_OR = 17,
+    VJOLTHAR_END = 18
 };
 
 enum {
@@ -79,12 +96,18 @@ uint16_t vjolthar_read(
     size_t *place, size_t *columns, size_t *sets, size_t *needs, size_t *marked);
 
 /*
- * Draws the reduced ordered diagram of the need of index chosen; the index
- * equal to the number of needs stands for "no need". 7 exactly if the numbers
- * are unfit or there is no such need; else 8 exactly if one of the three slices
- * has fewer than 8,445 places. A refusal writes nothing, and root and count are
- * 0. Else they are the root and how many inner nodes there are, and node k
- * stands at place k-2 of column, low and high.
+ * Draws the condition of the need of index chosen: that the need is true of a
+ * set of columns and the set contains no forbidden set. The index equal to the
+ * number of needs stands for "no need", and then only the second is asked. The
+ * diagram is the reduced ordered one, which tests column 0 first. Nodes 0 and 1
+ * are false and true; the inner nodes are numbered from 2 on, from the root:
+ * the low side whole, then the high side whole, then the node itself, each
+ * where it is first complete. 7 exactly if the numbers are unfit or there is no
+ * such need; else 8 exactly if one of the three slices has fewer than 8,445
+ * places. A refusal writes nothing, and root and count are 0. Else they are the
+ * root and how many inner nodes there are, and of node k place k-2 of column,
+ * low and high has the column that it tests, the node where that is 0 and the
+ * node where that is 1.
  */
 uint16_t vjolthar_diagram(
     size_t columns,
@@ -98,10 +121,12 @@ uint16_t vjolthar_diagram(
 
 /*
  * Draws the diagram as vjolthar_diagram does and lists its one-paths, low side
- * first: ones holds the columns set to 1, zeros the columns set to 0. Refused
- * as vjolthar_diagram is, and also with 8 exactly if there are more paths than
- * the shorter of ones and zeros has places; then the diagram is written and no
- * path. After a refusal root, count and paths are 0.
+ * first: of path k, place k of ones has the columns set to 1, and place k of
+ * zeros those set to 0, as sets. Refused as vjolthar_diagram is, and also with
+ * 8 exactly if there are more paths than the shorter of ones and zeros has
+ * places; then the diagram is written and no path. After a refusal root, count
+ * and paths are 0. Else paths is how many paths there are, never more than
+ * 32,768.
  */
 uint16_t vjolthar_one_paths(
     size_t columns,
@@ -118,9 +143,10 @@ uint16_t vjolthar_one_paths(
 /*
  * Judges a list of sets as the split of a job. 7 exactly if the numbers are
  * unfit; then fault, first and second are 0. Else fault is the first that holds
- * of: 1, extract first is empty or names a missing column; 2, extract first
- * contains forbidden set second; 3, extracts first and second share a column;
- * 4, need first is met by no extract; or 0, the split is right. Among faults of
+ * of: 1, extract first is empty or has a column that isn't there; 2, extract
+ * first contains forbidden set second; 3, extracts first and second, first
+ * below second, share a column; 4, need first is true of no extract; or 0, the
+ * split is right. Extracts, sets and needs are counted from 0. Among faults of
  * a kind the one with the smallest first, then second, is told; what a fault
  * has no use for is 0.
  */
@@ -137,8 +163,8 @@ uint16_t vjolthar_judge(
  * numbers, the one whose first differing number is smaller. 7 exactly if the
  * numbers are unfit, else 8 exactly if extracts has fewer than 8 places, else 9
  * exactly if no correct split exists. A refusal writes nothing, and count is 0.
- * Else count is how many extracts there are, and they stand in the first places
- * of extracts.
+ * Else count is how many extracts there are, and they stand rising in the first
+ * places of extracts.
  */
 uint16_t vjolthar_plan(
     size_t columns,

@@ -4,7 +4,7 @@
 #include <string.h>
 #include "vjolthar.h"
 
-/* the header says so of the planner and the report */
+/* the header says that no call needs more */
 #define STACK (256 * 1024)
 
 static int passed, failed;
@@ -14,14 +14,14 @@ static void expect(const char *what, int holds) {
     holds ? passed++ : failed++;
 }
 
-static uint16_t column[VJOLTHAR_NODES], low[VJOLTHAR_NODES], high[VJOLTHAR_NODES], ones[1], zeros[1];
+static uint16_t column[VJOLTHAR_NODES], low[VJOLTHAR_NODES], high[VJOLTHAR_NODES], ones[VJOLTHAR_PATHS], zeros[VJOLTHAR_PATHS];
+static uint16_t forbidden[VJOLTHAR_FORBIDDEN], marks[VJOLTHAR_MARKS], extracts[VJOLTHAR_EXTRACTS];
+static uint8_t text[VJOLTHAR_TEXT + 1], names[VJOLTHAR_NAMES], page[VJOLTHAR_PAGE];
 static uint16_t root, count, paths, fault;
-static size_t place, length, columns, sets, needs, marked, first, second;
-static const uint16_t column_a[] = {0, 18};
+static size_t bytes, place, length, columns, sets, needs, marked, first, second;
+static const uint16_t column_a[] = {0, VJOLTHAR_END};
 
 static void empty_slices(void) {
-    uint16_t extracts[VJOLTHAR_EXTRACTS];
-    uint8_t page[VJOLTHAR_PAGE];
     expect("an empty text at NULL is 2 at 0",
            vjolthar_report(NULL, 0, page, VJOLTHAR_PAGE, &place, &length) == 2 && place == 0
                && length == strlen("result=refused\nnumber=2\nplace=0\n"));
@@ -38,8 +38,6 @@ static void empty_slices(void) {
 
 /* with as many places as the header says, less `fewer` at one slice */
 static int read_with(size_t forbidden_fewer, size_t marks_fewer, size_t names_fewer) {
-    static uint16_t forbidden[VJOLTHAR_FORBIDDEN], marks[VJOLTHAR_MARKS];
-    static uint8_t names[VJOLTHAR_NAMES];
     return vjolthar_read((const uint8_t *)"columns=a\nend=0\n", 16, forbidden, VJOLTHAR_FORBIDDEN - forbidden_fewer, marks,
                          VJOLTHAR_MARKS - marks_fewer, names, VJOLTHAR_NAMES - names_fewer, &place, &columns, &sets, &needs, &marked);
 }
@@ -55,11 +53,10 @@ static int list_with(size_t places) {
 }
 
 static void rooms(void) {
-    uint16_t extracts[VJOLTHAR_EXTRACTS];
-    uint8_t page[VJOLTHAR_PAGE];
     expect("VJOLTHAR_FORBIDDEN, VJOLTHAR_MARKS and VJOLTHAR_NAMES are enough and no more",
            read_with(0, 0, 0) == 0 && columns == 1 && read_with(1, 0, 0) == 8 && read_with(0, 1, 0) == 8 && read_with(0, 0, 1) == 8);
     expect("VJOLTHAR_NODES is enough and no more", draw_with(0) == 0 && root == 2 && count == 1 && draw_with(1) == 8);
+    expect("the node of a need of one column is false where it is 0 and true where it is 1", column[0] == 0 && low[0] == 0 && high[0] == 1);
     expect("as many places as paths are enough and no fewer",
            list_with(1) == 0 && paths == 1 && ones[0] == 1 && zeros[0] == 0 && list_with(0) == 8 && paths == 0);
     expect("VJOLTHAR_EXTRACTS is enough and no more",
@@ -86,24 +83,26 @@ static void kinds(void) {
     expect("VJOLTHAR_RIGHT", fault_of(right, 2) == VJOLTHAR_RIGHT && first == 0 && second == 0);
 }
 
-static uint8_t text[8193], page[VJOLTHAR_PAGE];
-static size_t bytes;
-
-static void *report(void *unused) {
+static void *every_call(void *unused) {
+    vjolthar_read(text, bytes, forbidden, VJOLTHAR_FORBIDDEN, marks, VJOLTHAR_MARKS, names, VJOLTHAR_NAMES, &place, &columns, &sets, &needs, &marked);
+    vjolthar_diagram(columns, forbidden, sets, marks, marked, 0, column, VJOLTHAR_NODES, low, VJOLTHAR_NODES, high, VJOLTHAR_NODES, &root, &count);
+    vjolthar_one_paths(columns, forbidden, sets, marks, marked, 0, column, VJOLTHAR_NODES, low, VJOLTHAR_NODES, high, VJOLTHAR_NODES, ones,
+                       VJOLTHAR_PATHS, zeros, VJOLTHAR_PATHS, &root, &count, &paths);
+    vjolthar_plan(columns, forbidden, sets, marks, marked, extracts, VJOLTHAR_EXTRACTS, &count);
+    vjolthar_judge(columns, forbidden, sets, marks, marked, extracts, count, &fault, &first, &second);
     vjolthar_report(text, bytes, page, VJOLTHAR_PAGE, &place, &length);
     return unused;
 }
 
-/* the page of the text on standard input; a call that took more stack would end the program */
+/* every call on the text of standard input; one that took more stack would end the program */
 static void little_stack(void) {
     pthread_attr_t small;
     pthread_t thread;
     bytes = fread(text, 1, sizeof text, stdin);
-    pthread_attr_init(&small);
-    pthread_attr_setstacksize(&small, STACK);
-    pthread_create(&thread, &small, report, NULL);
-    pthread_join(thread, NULL);
-    expect("a report with 256 KiB of stack", length > 13 && memcmp(page, "result=split\n", 13) == 0);
+    int started = pthread_attr_init(&small) == 0 && pthread_attr_setstacksize(&small, STACK) == 0
+                  && pthread_create(&thread, &small, every_call, NULL) == 0 && pthread_join(thread, NULL) == 0;
+    expect("every call with 256 KiB of stack", started && length > 13 && memcmp(page, "result=split\n", 13) == 0);
+    expect("what was read has its needs and marks apart, and its plan is right", needs == 8 && marked > needs && paths > 0 && fault == VJOLTHAR_RIGHT);
 }
 
 int main(void) {
