@@ -1,9 +1,9 @@
-//! BuDDy as a peer of the diagram, through the functions of `buddy.c`, in this process.
+//! BuDDy as a peer of the diagram, through the functions of `buddy.c`, in this process. bench/run
+//! links them and BuDDy after them, as older linkers want it.
 
 use crate::clock;
 use crate::library::Numbers;
 
-#[link(name = "bdd")]
 extern "C" {
     fn buddy_open(columns: i32, nodes: i32, cache: i32);
     fn buddy_close();

@@ -45,7 +45,7 @@ pub fn installed() -> bool {
         .stdout(Stdio::null())
         .stderr(Stdio::null())
         .status();
-    version.is_ok_and(|status| status.success())
+    version.map_or(false, |status| status.success())
 }
 
 pub fn program(job: &Job) -> String {

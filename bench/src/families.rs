@@ -95,12 +95,8 @@ impl Family {
         let mut jobs = Vec::new();
         while jobs.len() < count {
             let name = format!("{}-{}-{}", self.name, self.n, jobs.len());
-            let Some(job) = Job::from_text(&name, &self.draw(&mut random)) else {
-                continue;
-            };
-            if (self.kept)(&job, &mut lent) {
-                jobs.push(job);
-            }
+            let drawn = Job::from_text(&name, &self.draw(&mut random));
+            jobs.extend(drawn.filter(|job| (self.kept)(job, &mut lent)));
         }
         jobs
     }

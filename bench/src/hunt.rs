@@ -127,8 +127,9 @@ pub fn hunt(hunt: &Hunt, lent: &mut Lent) {
     let mut best = current.clone();
     while start.elapsed().as_secs() < hunt.seconds && best.0 < LIMIT {
         let draft = current.1.changed(&mut random);
-        let Some(taken) = hunt.cost(&draft, best.0, lent) else {
-            continue;
+        let taken = match hunt.cost(&draft, best.0, lent) {
+            Some(taken) => taken,
+            None => continue,
         };
         if taken > best.0 {
             eprintln!("bench: {taken:.6} s after {} s", start.elapsed().as_secs());

@@ -130,12 +130,13 @@ fn all_families() -> [Family; 5] {
 fn plan(limit: u32, lent: &mut Lent) {
     let peers = peers();
     for (peer, (heading, words)) in peers.iter().zip(words::PLANNER) {
-        let Some(peer) = peer else {
-            section(heading, words::NOT_INSTALLED);
-            continue;
-        };
-        section(heading, words);
-        planning::families(&all_families(), JOBS, peer, limit, lent);
+        match peer {
+            Some(peer) => {
+                section(heading, words);
+                planning::families(&all_families(), JOBS, peer, limit, lent);
+            }
+            None => section(heading, words::NOT_INSTALLED),
+        }
     }
     let installed: Vec<Peer> = peers.into_iter().flatten().collect();
     section("Planner on the hardest jobs known", words::HARDEST);

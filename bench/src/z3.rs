@@ -6,8 +6,9 @@
 //! lexicographic order, which is its default). The text is in SMT-LIB; reading it is counted, the
 //! making of Z3's context is not.
 
-use std::ffi::{c_char, c_int, c_uint, c_void, CStr, CString};
+use std::ffi::{CStr, CString};
 use std::fmt::Write as _;
+use std::os::raw::{c_char, c_int, c_uint, c_void};
 use std::ptr;
 
 use crate::clock;
@@ -135,12 +136,13 @@ fn aims(text: &mut String, columns: usize, extracts: usize) {
 
 pub fn plan(program: &str, limit: u32) -> Run {
     let text = CString::new(program).expect("no byte of the program is 0");
+    let timeout = CString::new("timeout").expect("letters");
     let milliseconds = CString::new((limit * 1000).to_string()).expect("digits");
     // SAFETY: every object is used with the context that made it and before that is deleted, and
     // the texts live through the calls.
     unsafe {
         let config = Z3_mk_config();
-        Z3_set_param_value(config, c"timeout".as_ptr(), milliseconds.as_ptr());
+        Z3_set_param_value(config, timeout.as_ptr(), milliseconds.as_ptr());
         let context = Z3_mk_context(config);
         Z3_del_config(config);
         let start = clock::now();
