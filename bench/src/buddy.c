@@ -4,7 +4,7 @@
 #include <stddef.h>
 #include <stdint.h>
 
-enum { BOTH = 16, EITHER = 17, MOST_OPERANDS = 33 };
+enum { BOTH = 16, EITHER = 17, MOST_OPERANDS = 32 };
 
 /* Fresh nodes and caches of these sizes. */
 void buddy_open(int columns, int nodes, int cache)

@@ -3,6 +3,7 @@
 
 use crate::clock;
 use crate::library::Numbers;
+use crate::vjolthar::END;
 
 extern "C" {
     fn buddy_open(columns: i32, nodes: i32, cache: i32);
@@ -30,7 +31,7 @@ pub struct Built {
 /// The marks of the chosen need without its end; none for "no need".
 fn marks(job: &Numbers, chosen: usize) -> &[u16] {
     job.marks
-        .split(|mark| *mark == 18)
+        .split(|mark| *mark == END)
         .nth(chosen)
         .expect("the chosen need or none")
 }

@@ -2,8 +2,9 @@
 //! cut to the library's limits.
 
 use crate::job::{joined, text, Answer, Formula, Job};
-use crate::library::Lent;
+use crate::library::{Lent, NEEDS};
 use crate::random::Random;
+use crate::vjolthar::{COLUMNS, FORBIDDEN};
 
 /// From how many to how many, both included.
 type Range = (usize, usize);
@@ -34,7 +35,7 @@ pub fn thesis(n: usize) -> Family {
         n,
         forbidden: (5, 25),
         together: (2, 8),
-        needs: (2, 8),
+        needs: (2, NEEDS),
         marks: (2, 4),
         both: 50,
         kept: possible,
@@ -46,10 +47,10 @@ pub fn thesis(n: usize) -> Family {
 pub fn dense() -> Family {
     Family {
         name: "dense",
-        n: 16,
-        forbidden: (32, 32),
+        n: COLUMNS,
+        forbidden: (FORBIDDEN, FORBIDDEN),
         together: (2, 5),
-        needs: (8, 8),
+        needs: (NEEDS, NEEDS),
         marks: (8, 24),
         both: 40,
         kept: possible,
@@ -62,10 +63,10 @@ pub fn dense() -> Family {
 pub fn mixed() -> Family {
     Family {
         name: "mixed",
-        n: 16,
-        forbidden: (20, 32),
+        n: COLUMNS,
+        forbidden: (20, FORBIDDEN),
         together: (2, 3),
-        needs: (6, 8),
+        needs: (6, NEEDS),
         marks: (4, 12),
         both: 60,
         kept: each_alone,

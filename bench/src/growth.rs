@@ -7,6 +7,7 @@ use crate::job::Job;
 use crate::library::Lent;
 use crate::spread::{number, Spread};
 use crate::table::table;
+use crate::vjolthar::COLUMNS;
 
 /// A call of the library on a job.
 type Call = fn(&mut Lent, &Job);
@@ -29,7 +30,7 @@ const CALLS: [(&str, Call); 4] = [
 
 /// A row for each n: the median over the jobs, its spread, and the factor to the row before.
 pub fn growth(count: usize, lent: &mut Lent) {
-    let sizes: Vec<usize> = (4..=16).step_by(2).collect();
+    let sizes: Vec<usize> = (4..=COLUMNS).step_by(2).collect();
     let jobs: Vec<Vec<Job>> = sizes
         .iter()
         .map(|n| families::growing(*n).jobs(count))

@@ -6,13 +6,11 @@ use std::time::Instant;
 use crate::clock;
 use crate::families::need;
 use crate::job::{text, Formula, Job};
-use crate::library::Lent;
+use crate::library::{Lent, NEEDS};
 use crate::peer::Peer;
 use crate::random::Random;
+use crate::vjolthar::{COLUMNS, FORBIDDEN};
 
-const N: usize = 16;
-const MOST_NEEDS: usize = 8;
-const MOST_FORBIDDEN: usize = 32;
 /// So many random jobs are tried before the best of them is changed.
 const STARTS: usize = 100;
 /// A change is kept if the time falls to no less than this part: that leads out of small dead ends.
@@ -39,7 +37,7 @@ impl Draft {
         }
         forbidden.extend((0..random.between(1, 4)).map(|_| set(random)));
         let owned = (0..apart).map(|own| vec![Formula::Column(own)]);
-        let free = (apart..MOST_NEEDS).map(|_| vec![or_list(apart, random)]);
+        let free = (apart..NEEDS).map(|_| vec![or_list(apart, random)]);
         let starts: Vec<_> = owned.chain(free).collect();
         let needs = starts
             .into_iter()
@@ -54,10 +52,10 @@ impl Draft {
             let forbidden = random.below(draft.forbidden.len());
             let place = random.below(draft.needs.len());
             match random.below(9) {
-                0 if draft.forbidden.len() < MOST_FORBIDDEN => draft.forbidden.push(set(random)),
+                0 if draft.forbidden.len() < FORBIDDEN => draft.forbidden.push(set(random)),
                 1 if draft.forbidden.len() > 1 => drop(draft.forbidden.remove(forbidden)),
                 2 => draft.forbidden[forbidden] = set(random),
-                3 => draft.needs[place] = need(random, N, 12, 40),
+                3 => draft.needs[place] = need(random, COLUMNS, 12, 40),
                 _ => change(&mut draft.needs[place], random),
             }
         }
@@ -65,20 +63,20 @@ impl Draft {
     }
 
     fn job(&self) -> Option<Job> {
-        let names: Vec<String> = (0..N).map(|column| format!("c{column}")).collect();
+        let names: Vec<String> = (0..COLUMNS).map(|column| format!("c{column}")).collect();
         Job::from_text("hunted", &text(&names, &self.forbidden, &self.needs))
     }
 }
 
 fn set(random: &mut Random) -> Vec<usize> {
     let size = random.between(2, 6);
-    random.columns(N, size)
+    random.columns(COLUMNS, size)
 }
 
 /// An or-list of columns from this one on.
 fn or_list(first: usize, random: &mut Random) -> Formula {
-    let count = random.between(3, N - first);
-    let columns = random.columns(N - first, count);
+    let count = random.between(3, COLUMNS - first);
+    let columns = random.columns(COLUMNS - first, count);
     Formula::Either(
         columns
             .into_iter()
@@ -97,11 +95,11 @@ fn long_need(start: Vec<Formula>, first: usize, random: &mut Random) -> Formula 
 /// Changes a need at one place: another column, one part more or one less.
 fn change(formula: &mut Formula, random: &mut Random) {
     match formula {
-        Formula::Column(column) => *column = random.below(N),
+        Formula::Column(column) => *column = random.below(COLUMNS),
         Formula::Both(parts) | Formula::Either(parts) => {
             let part = random.below(parts.len());
             match random.below(6) {
-                0 => parts.push(Formula::Column(random.below(N))),
+                0 => parts.push(Formula::Column(random.below(COLUMNS))),
                 1 if parts.len() > 2 => drop(parts.remove(part)),
                 _ => change(&mut parts[part], random),
             }

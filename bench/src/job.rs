@@ -1,10 +1,7 @@
 //! A job with its name and its text, and its needs as formulas for the peers' encodings.
 
 use crate::library::{Lent, Numbers, NO_CORRECT_SPLIT};
-
-const BOTH: u16 = 16;
-const EITHER: u16 = 17;
-const END: u16 = 18;
+use crate::vjolthar::{AND, COLUMNS, END, OR};
 
 /// A need: joins of one kind inside each other are one join of many parts.
 #[derive(Clone, PartialEq, Debug)]
@@ -76,7 +73,11 @@ impl Job {
 
     /// The columns of each forbidden set.
     pub fn forbidden(&self) -> Vec<Vec<usize>> {
-        let columns = |set: &u16| (0..16).filter(|column| set >> column & 1 == 1).collect();
+        let columns = |set: &u16| {
+            (0..COLUMNS)
+                .filter(|column| set >> column & 1 == 1)
+                .collect()
+        };
         self.numbers.forbidden.iter().map(columns).collect()
     }
 
@@ -104,10 +105,10 @@ fn formula(marks: &[u16]) -> Formula {
     let mut waiting: Vec<Formula> = Vec::new();
     for mark in marks {
         let next = match *mark {
-            BOTH | EITHER => {
+            AND | OR => {
                 let second = waiting.pop().expect("a join has two operands");
                 let first = waiting.pop().expect("a join has two operands");
-                joined(*mark == BOTH, first, second)
+                joined(*mark == AND, first, second)
             }
             column => Formula::Column(column as usize),
         };

@@ -1,17 +1,10 @@
 //! The measured library: its C interface, called in this process, with every slice lent once.
 
-#[path = "../../include/vjolthar.rs"]
-mod vjolthar;
+use crate::vjolthar::{vjolthar_diagram, vjolthar_one_paths, vjolthar_plan, vjolthar_read};
+use crate::vjolthar::{EXTRACTS, FORBIDDEN, MARKS, NAMES, NODES, PATHS};
 
-use vjolthar::{vjolthar_diagram, vjolthar_one_paths, vjolthar_plan, vjolthar_read};
-
-pub const MOST_FORBIDDEN: usize = 32;
-pub const MOST_MARKS: usize = 512;
-pub const MOST_NAMES: usize = 192;
-pub const MOST_EXTRACTS: usize = 8;
-pub const MOST_NODES: usize = 8445;
-pub const MOST_PATHS: usize = 32768;
-
+/// The most needs: as many as the most extracts, one for each.
+pub const NEEDS: usize = EXTRACTS;
 /// The refusal of a job that has no correct split.
 pub const NO_CORRECT_SPLIT: u16 = 9;
 
@@ -37,10 +30,10 @@ pub struct Read {
 
 /// The slices that the calls are lent.
 pub struct Lent {
-    pub forbidden: [u16; MOST_FORBIDDEN],
-    pub marks: [u16; MOST_MARKS],
-    pub names: [u8; MOST_NAMES],
-    pub extracts: [u16; MOST_EXTRACTS],
+    pub forbidden: [u16; FORBIDDEN],
+    pub marks: [u16; MARKS],
+    pub names: [u8; NAMES],
+    pub extracts: [u16; EXTRACTS],
     column: Vec<u16>,
     low: Vec<u16>,
     high: Vec<u16>,
@@ -51,15 +44,15 @@ pub struct Lent {
 impl Lent {
     pub fn new() -> Lent {
         Lent {
-            forbidden: [0; MOST_FORBIDDEN],
-            marks: [0; MOST_MARKS],
-            names: [0; MOST_NAMES],
-            extracts: [0; MOST_EXTRACTS],
-            column: vec![0; MOST_NODES],
-            low: vec![0; MOST_NODES],
-            high: vec![0; MOST_NODES],
-            ones: vec![0; MOST_PATHS],
-            zeros: vec![0; MOST_PATHS],
+            forbidden: [0; FORBIDDEN],
+            marks: [0; MARKS],
+            names: [0; NAMES],
+            extracts: [0; EXTRACTS],
+            column: vec![0; NODES],
+            low: vec![0; NODES],
+            high: vec![0; NODES],
+            ones: vec![0; PATHS],
+            zeros: vec![0; PATHS],
         }
     }
 

@@ -29,6 +29,8 @@ mod spread;
 mod stored;
 mod table;
 mod three;
+#[path = "../../include/vjolthar.rs"]
+mod vjolthar;
 mod words;
 #[cfg(z3)]
 mod z3;

@@ -5,18 +5,18 @@ use crate::clock;
 use crate::families;
 use crate::families::need;
 use crate::job::text;
-use crate::library::Lent;
+use crate::library::{Lent, NEEDS};
 use crate::plain;
 use crate::random::Random;
 use crate::spread::{counts, number, Spread};
 use crate::table::{table, REPEATED};
+use crate::vjolthar::{COLUMNS, FORBIDDEN, NAME_BYTES, TEXT};
 
 const REPEATS: usize = 15;
-const LONGEST: usize = 8192;
 
 /// A row for each kind of text.
 pub fn readings(count: usize, lent: &mut Lent) {
-    let typical: Vec<Vec<u8>> = families::thesis(16)
+    let typical: Vec<Vec<u8>> = families::thesis(COLUMNS)
         .jobs(count)
         .into_iter()
         .map(|job| job.text.into_bytes())
@@ -89,7 +89,7 @@ fn agree(text: &[u8], lent: &mut Lent) -> u16 {
     let names: Vec<u8> = theirs
         .names
         .iter()
-        .flat_map(|name| [name, &[0; 12][name.len()..]].concat())
+        .flat_map(|name| [name, &[0; NAME_BYTES][name.len()..]].concat())
         .collect();
     let same = (ours.refusal, ours.place, ours.columns, ours.needs)
         == (theirs.refusal, theirs.place, theirs.columns, theirs.needs)
@@ -111,20 +111,22 @@ fn agree(text: &[u8], lent: &mut Lent) -> u16 {
 /// under the longest.
 fn large(count: usize) -> Vec<Vec<u8>> {
     let mut random = Random::new(8192);
-    let names: Vec<String> = (0..16)
+    let names: Vec<String> = (0..COLUMNS)
         .map(|column| format!("longcolumn{column:02}"))
         .collect();
     let one = |_| {
-        let needs: Vec<_> = (0..8).map(|_| need(&mut random, 16, 28, 50)).collect();
-        let mut forbidden: Vec<_> = (0..32).map(|_| random.columns(16, 2)).collect();
+        let needs: Vec<_> = (0..NEEDS)
+            .map(|_| need(&mut random, COLUMNS, 28, 50))
+            .collect();
+        let mut forbidden: Vec<_> = (0..FORBIDDEN).map(|_| random.columns(COLUMNS, 2)).collect();
         loop {
             let written = text(&names, &forbidden, &needs);
-            if written.len() + 13 > LONGEST {
+            if written.len() + NAME_BYTES + 1 > TEXT {
                 return written.into_bytes();
             }
-            let next = random.below(32);
-            let size = (forbidden[next].len() + 1).min(16);
-            forbidden[next] = random.columns(16, size);
+            let next = random.below(FORBIDDEN);
+            let size = (forbidden[next].len() + 1).min(COLUMNS);
+            forbidden[next] = random.columns(COLUMNS, size);
         }
     };
     (0..count).map(one).collect()
