@@ -1,5 +1,5 @@
-//! The clock: processor time, which other work on the machine does not lengthen, and which is never
-//! more than the time on the wall.
+//! The clock: processor time. Other work on the machine lengthens it a little, by the caches and
+//! cores that both use, but not by the time that a process waits for its turn.
 
 use std::os::raw::{c_int, c_long};
 
