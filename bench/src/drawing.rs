@@ -4,7 +4,7 @@ use crate::buddy;
 use crate::clock;
 use crate::job::Job;
 use crate::library::Lent;
-use crate::spread::{counts, number, Spread};
+use crate::spread::{median, number, Spread};
 use crate::table::{table, REPEATED};
 
 const REPEATS: usize = 9;
@@ -42,7 +42,7 @@ pub fn drawings(lists: &[(String, Vec<Job>)], lent: &mut Lent) {
         vec![
             name.clone(),
             duels.len().to_string(),
-            counts(&duels.iter().map(|duel| duel.nodes).collect::<Vec<_>>()),
+            all(|duel| duel.nodes as f64).counts(),
             all(|duel| duel.ours * 1e6).shown(),
             all(|duel| duel.fresh).shown(),
             all(|duel| duel.whole).shown(),
@@ -68,7 +68,6 @@ fn duel(job: &Job, chosen: usize, lent: &mut Lent) -> Duel {
         whole.push(built.whole / seconds);
         again.push(buddy::again(&job.numbers, chosen) / seconds);
     }
-    let median = |values| Spread::new(values).median().value;
     let factor = Spread::new(fresh.clone()).factor();
     Duel {
         nodes,

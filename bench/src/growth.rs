@@ -5,7 +5,7 @@ use crate::clock;
 use crate::families;
 use crate::job::Job;
 use crate::library::Lent;
-use crate::spread::{number, Spread};
+use crate::spread::{median, number, Spread};
 use crate::table::table;
 use crate::vjolthar::COLUMNS;
 
@@ -73,7 +73,6 @@ fn over_sizes(jobs: &[Vec<Job>], call: Call, lent: &mut Lent) -> Vec<Spread> {
             }
         }
     }
-    let median = |times: Vec<f64>| Spread::new(times).median().value;
     times
         .into_iter()
         .map(|times| Spread::new(times.into_iter().map(median)))

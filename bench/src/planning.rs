@@ -8,7 +8,7 @@ use crate::families::Family;
 use crate::job::{Answer, Job};
 use crate::library::Lent;
 use crate::peer::Peer;
-use crate::spread::{number, Figure, Spread};
+use crate::spread::{median, number, Figure, Spread};
 use crate::table::{progress, table, REPEATED};
 
 const REPEATS: usize = 9;
@@ -170,7 +170,7 @@ fn repeats(duels: &[Duel]) -> String {
     if factors.is_empty() {
         return String::new();
     }
-    number(Spread::new(factors).median().value)
+    number(median(factors))
 }
 
 /// The median of the start-ups that stand beside the runs, in a sentence.

@@ -8,7 +8,7 @@ use crate::job::text;
 use crate::library::{Lent, NEEDS};
 use crate::plain;
 use crate::random::Random;
-use crate::spread::{counts, number, Spread};
+use crate::spread::{median, number, Spread};
 use crate::table::{table, REPEATED};
 use crate::vjolthar::{COLUMNS, FORBIDDEN, NAME_BYTES, TEXT};
 
@@ -60,17 +60,17 @@ fn row(name: &str, texts: &[Vec<u8>], lent: &mut Lent) -> Vec<String> {
             pairs.push((seconds, clock::timed(|| drop(plain_read(text)))));
         }
         let ratio = Spread::new(pairs.iter().map(|pair| pair.1 / pair.0));
-        ours.push(1e6 * Spread::new(pairs.iter().map(|pair| pair.0)).median().value);
+        ours.push(1e6 * median(pairs.iter().map(|pair| pair.0)));
         ratios.push(ratio.median().value);
         factors.push(ratio.factor());
     }
     vec![
         name.to_string(),
         format!("{}, {refused}", texts.len()),
-        counts(&texts.iter().map(Vec::len).collect::<Vec<_>>()),
+        Spread::new(texts.iter().map(|text| text.len() as f64)).counts(),
         Spread::new(ours).shown(),
         Spread::new(ratios).shown(),
-        number(Spread::new(factors).median().value),
+        number(median(factors)),
     ]
 }
 

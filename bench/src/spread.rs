@@ -37,6 +37,7 @@ impl Spread {
         Spread(figures)
     }
 
+    /// The figure in the middle, or the mean of the two there.
     pub fn median(&self) -> Figure {
         let after = self.0[self.0.len() / 2];
         let before = self.0[(self.0.len() - 1) / 2];
@@ -53,31 +54,31 @@ impl Spread {
 
     /// "median (lowest to highest)", or the one figure that there is.
     pub fn shown(&self) -> String {
+        self.written(Figure::shown)
+    }
+
+    /// The same of counts, which are written whole, as is the mean of two counts in the middle.
+    pub fn counts(&self) -> String {
+        self.written(|count| commas(count.value.round() as u64))
+    }
+
+    fn written(&self, figure: fn(Figure) -> String) -> String {
         let last = self.0.len() - 1;
         if last == 0 {
-            return self.0[0].shown();
+            return figure(self.0[0]);
         }
         format!(
             "{} ({} to {})",
-            self.median().shown(),
-            self.0[0].shown(),
-            self.0[last].shown()
+            figure(self.median()),
+            figure(self.0[0]),
+            figure(self.0[last])
         )
     }
 }
 
-/// "median (lowest to highest)" of counts, which are written whole.
-pub fn counts(counts: &[usize]) -> String {
-    let mut sorted = counts.to_vec();
-    sorted.sort();
-    let written = |count: usize| commas(count as u64);
-    let last = sorted.len() - 1;
-    format!(
-        "{} ({} to {})",
-        written(sorted[last / 2]),
-        written(sorted[0]),
-        written(sorted[last])
-    )
+/// The median of figures of which none is over.
+pub fn median(values: impl IntoIterator<Item = f64>) -> f64 {
+    Spread::new(values).median().value
 }
 
 /// Rounded to three digits that count, with commas between thousands.
