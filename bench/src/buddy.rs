@@ -3,7 +3,6 @@
 
 use crate::clock;
 use crate::library::Numbers;
-use crate::vjolthar::END;
 
 extern "C" {
     fn buddy_open(columns: i32, nodes: i32, cache: i32);
@@ -28,14 +27,6 @@ pub struct Built {
     pub nodes: usize,
 }
 
-/// The marks of the chosen need without its end; none for "no need".
-fn marks(job: &Numbers, chosen: usize) -> &[u16] {
-    job.marks
-        .split(|mark| *mark == END)
-        .nth(chosen)
-        .expect("the chosen need or none")
-}
-
 fn build(job: &Numbers, marks: &[u16]) -> i32 {
     // SAFETY: BuDDy is open for as many columns as the job has, and the job and its marks are fit.
     unsafe {
@@ -49,7 +40,7 @@ fn build(job: &Numbers, marks: &[u16]) -> i32 {
 }
 
 pub fn built(job: &Numbers, chosen: usize) -> Built {
-    let marks = marks(job, chosen);
+    let marks = job.need(chosen);
     let start = clock::now();
     // SAFETY: BuDDy is opened once, used and closed.
     unsafe {
@@ -72,7 +63,7 @@ pub fn built(job: &Numbers, chosen: usize) -> Built {
 /// The seconds of a build with the nodes and caches of the builds of the same diagram before it:
 /// mostly answers that BuDDy remembers.
 pub fn again(job: &Numbers, chosen: usize) -> f64 {
-    let marks = marks(job, chosen);
+    let marks = job.need(chosen);
     // SAFETY: as in `built`; a condition that is let go leaves its nodes in the table.
     unsafe {
         buddy_open(job.columns as i32, MEDIUM.0, MEDIUM.1);

@@ -45,7 +45,7 @@ pub fn installed() -> bool {
         .stdout(Stdio::null())
         .stderr(Stdio::null())
         .status();
-    version.map_or(false, |status| status.success())
+    matches!(version, Ok(status) if status.success())
 }
 
 pub fn program(job: &Job) -> String {

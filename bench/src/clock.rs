@@ -55,7 +55,7 @@ pub fn ended(child: u32) -> f64 {
 
 /// The seconds that one call takes: the mean of so many calls that they last a fifth of a
 /// millisecond, and at most 200.
-pub fn timed(mut call: impl FnMut()) -> f64 {
+pub fn timed<T>(mut call: impl FnMut() -> T) -> f64 {
     let mut once = |count: u32| {
         let start = now();
         for _ in 0..count {

@@ -5,7 +5,7 @@ use crate::clock;
 use crate::job::Job;
 use crate::library::Lent;
 use crate::spread::{median, number, Spread};
-use crate::table::{table, REPEATED};
+use crate::table::{disagreement, table, REPEATED};
 
 const REPEATS: usize = 9;
 
@@ -55,12 +55,10 @@ pub fn drawings(lists: &[(String, Vec<Job>)], lent: &mut Lent) {
 }
 
 fn duel(job: &Job, chosen: usize, lent: &mut Lent) -> Duel {
-    let nodes = lent.diagram(&job.numbers, chosen) as usize;
+    let nodes = lent.diagram(&job.numbers, chosen);
     let (mut ours, mut fresh, mut whole, mut again) = (vec![], vec![], vec![], vec![]);
     for _ in 0..REPEATS {
-        let seconds = clock::timed(|| {
-            lent.diagram(&job.numbers, chosen);
-        });
+        let seconds = clock::timed(|| lent.diagram(&job.numbers, chosen));
         let built = buddy::built(&job.numbers, chosen);
         agree(job, chosen, nodes, built.nodes);
         ours.push(seconds);
@@ -81,10 +79,10 @@ fn duel(job: &Job, chosen: usize, lent: &mut Lent) -> Duel {
 
 fn agree(job: &Job, chosen: usize, ours: usize, theirs: usize) {
     if ours != theirs {
-        eprintln!(
-            "bench: BuDDy disagrees on need {chosen} of job {}: {theirs} nodes, ours {ours}\n{}",
-            job.name, job.text
+        let words = format!(
+            "BuDDy disagrees on need {chosen} of job {}: {theirs} nodes, ours {ours}",
+            job.name
         );
-        std::process::exit(1);
+        disagreement(&words, &job.text);
     }
 }

@@ -1,7 +1,7 @@
 //! Families of jobs, made by a generator with a fixed seed. The first is that of 001, section 3.7,
 //! cut to the library's limits.
 
-use crate::job::{joined, text, Answer, Formula, Job};
+use crate::job::{joined, short_names, text, Answer, Formula, Job};
 use crate::library::{Lent, NEEDS};
 use crate::random::Random;
 use crate::vjolthar::{COLUMNS, FORBIDDEN};
@@ -103,7 +103,6 @@ impl Family {
     }
 
     fn draw(&self, random: &mut Random) -> String {
-        let names: Vec<String> = (0..self.n).map(|column| format!("c{column}")).collect();
         let forbidden: Vec<_> = (0..drawn(random, self.forbidden))
             .map(|_| {
                 let count = drawn(random, self.together).min(self.n);
@@ -116,7 +115,7 @@ impl Family {
                 need(random, self.n, count, self.both)
             })
             .collect();
-        text(&names, &forbidden, &needs)
+        text(&short_names(self.n), &forbidden, &needs)
     }
 }
 

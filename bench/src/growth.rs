@@ -1,6 +1,7 @@
 //! How the cost of each call grows with the number of columns, the other numbers of the job staying
 //! the same.
 
+use crate::calls::{Call, DIAGRAM, ONE_PATHS, PLAN, READ};
 use crate::clock;
 use crate::families;
 use crate::job::Job;
@@ -9,24 +10,8 @@ use crate::spread::{median, number, Spread};
 use crate::table::table;
 use crate::vjolthar::COLUMNS;
 
-/// A call of the library on a job.
-type Call = fn(&mut Lent, &Job);
-
 const REPEATS: usize = 7;
-const CALLS: [(&str, Call); 4] = [
-    ("read", |lent, job| {
-        lent.read(job.text.as_bytes());
-    }),
-    ("diagram", |lent, job| {
-        lent.diagram(&job.numbers, 0);
-    }),
-    ("one_paths", |lent, job| {
-        lent.one_paths(&job.numbers, 0);
-    }),
-    ("plan", |lent, job| {
-        lent.plan(&job.numbers);
-    }),
-];
+const CALLS: [(&str, Call); 4] = [READ, DIAGRAM, ONE_PATHS, PLAN];
 
 /// A row for each n: the median over the jobs, its spread, and the factor to the row before.
 pub fn growth(count: usize, lent: &mut Lent) {
@@ -69,7 +54,7 @@ fn over_sizes(jobs: &[Vec<Job>], call: Call, lent: &mut Lent) -> Vec<Spread> {
     for _ in 0..REPEATS {
         for (jobs, times) in jobs.iter().zip(&mut times) {
             for (job, times) in jobs.iter().zip(times) {
-                times.push(1e6 * clock::timed(|| call(lent, job)));
+                times.push(1e6 * clock::timed(|| call(lent, job, 0)));
             }
         }
     }

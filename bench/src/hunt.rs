@@ -5,7 +5,7 @@ use std::time::Instant;
 
 use crate::clock;
 use crate::families::need;
-use crate::job::{text, Formula, Job};
+use crate::job::{short_names, text, Formula, Job};
 use crate::library::{Lent, NEEDS};
 use crate::peer::Peer;
 use crate::random::Random;
@@ -63,7 +63,7 @@ impl Draft {
     }
 
     fn job(&self) -> Option<Job> {
-        let names: Vec<String> = (0..COLUMNS).map(|column| format!("c{column}")).collect();
+        let names = short_names(COLUMNS);
         Job::from_text("hunted", &text(&names, &self.forbidden, &self.needs))
     }
 }

@@ -47,20 +47,15 @@ impl Job {
 
     /// The needs as formulas.
     pub fn needs(&self) -> Vec<Formula> {
-        let rows = self.numbers.marks.split(|mark| *mark == END);
-        rows.filter(|row| !row.is_empty()).map(formula).collect()
+        (0..self.numbers.needs)
+            .map(|need| formula(self.numbers.need(need)))
+            .collect()
     }
 
     /// The job with this need alone.
     pub fn with_need(&self, need: usize) -> Job {
-        let row = self
-            .numbers
-            .marks
-            .split_inclusive(|mark| *mark == END)
-            .nth(need)
-            .expect("one of the needs");
         let numbers = Numbers {
-            marks: row.to_vec(),
+            marks: [self.numbers.need(need), &[END]].concat(),
             needs: 1,
             ..self.numbers.clone()
         };
@@ -88,7 +83,7 @@ impl Job {
             return Answer::Impossible;
         }
         assert_eq!(refusal, 0, "job {} is refused:\n{}", self.name, self.text);
-        let extracts = &lent.extracts[..count as usize];
+        let extracts = &lent.extracts[..count];
         let columns = extracts
             .iter()
             .map(|extract| extract.count_ones() as usize)
@@ -148,6 +143,11 @@ pub fn spelled(need: &Formula, names: &[String]) -> String {
         Formula::Both(parts) => all(parts, "&", true),
         Formula::Either(parts) => all(parts, "|", false),
     }
+}
+
+/// Short names of so many columns.
+pub fn short_names(count: usize) -> Vec<String> {
+    (0..count).map(|column| format!("c{column}")).collect()
 }
 
 /// The text of a job.

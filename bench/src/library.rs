@@ -1,7 +1,7 @@
 //! The measured library: its C interface, called in this process, with every slice lent once.
 
 use crate::vjolthar::{vjolthar_diagram, vjolthar_one_paths, vjolthar_plan, vjolthar_read};
-use crate::vjolthar::{EXTRACTS, FORBIDDEN, MARKS, NAMES, NODES, PATHS};
+use crate::vjolthar::{END, EXTRACTS, FORBIDDEN, MARKS, NAMES, NODES, PATHS};
 
 /// The most needs: as many as the most extracts, one for each.
 pub const NEEDS: usize = EXTRACTS;
@@ -15,6 +15,16 @@ pub struct Numbers {
     pub forbidden: Vec<u16>,
     pub marks: Vec<u16>,
     pub needs: usize,
+}
+
+impl Numbers {
+    /// The marks of the chosen need without its end; none for "no need".
+    pub fn need(&self, chosen: usize) -> &[u16] {
+        self.marks
+            .split(|mark| *mark == END)
+            .nth(chosen)
+            .expect("the chosen need or none")
+    }
 }
 
 /// What the reader answers, all but the slices that it fills.
@@ -76,7 +86,7 @@ impl Lent {
     }
 
     /// The refusal's number and how many extracts there are.
-    pub fn plan(&mut self, job: &Numbers) -> (u16, u16) {
+    pub fn plan(&mut self, job: &Numbers) -> (u16, usize) {
         let mut count = 0;
         // SAFETY: as in `read`.
         #[rustfmt::skip]
@@ -89,11 +99,11 @@ impl Lent {
                 &mut count,
             )
         };
-        (refusal, count)
+        (refusal, count.into())
     }
 
     /// The number of inner nodes.
-    pub fn diagram(&mut self, job: &Numbers, chosen: usize) -> u16 {
+    pub fn diagram(&mut self, job: &Numbers, chosen: usize) -> usize {
         let (mut root, mut count) = (0, 0);
         // SAFETY: as in `read`.
         #[rustfmt::skip]
@@ -110,11 +120,11 @@ impl Lent {
             )
         };
         assert_eq!(refusal, 0, "the diagram is refused");
-        count
+        count.into()
     }
 
     /// The number of one-paths.
-    pub fn one_paths(&mut self, job: &Numbers, chosen: usize) -> u16 {
+    pub fn one_paths(&mut self, job: &Numbers, chosen: usize) -> usize {
         let (mut root, mut count, mut paths) = (0, 0, 0);
         // SAFETY: as in `read`.
         #[rustfmt::skip]
@@ -133,6 +143,6 @@ impl Lent {
             )
         };
         assert_eq!(refusal, 0, "the one-paths are refused");
-        paths
+        paths.into()
     }
 }

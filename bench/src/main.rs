@@ -8,6 +8,7 @@
 
 #[cfg(buddy)]
 mod buddy;
+mod calls;
 mod clingo;
 mod clock;
 #[cfg(buddy)]

@@ -9,7 +9,7 @@ use crate::job::{Answer, Job};
 use crate::library::Lent;
 use crate::peer::Peer;
 use crate::spread::{median, number, Figure, Spread};
-use crate::table::{progress, table, REPEATED};
+use crate::table::{disagreement, progress, table, REPEATED};
 
 const REPEATS: usize = 9;
 /// A run of a peer that takes as many seconds is not repeated.
@@ -39,9 +39,7 @@ impl Duel {
             over: false,
         };
         while duel.times.len() < REPEATS {
-            let ours = clock::timed(|| {
-                lent.plan(&job.numbers);
-            });
+            let ours = clock::timed(|| lent.plan(&job.numbers));
             let start_up = peer.start_up.map_or(0.0, |start_up| start_up());
             let run = (peer.plan)(&program, limit);
             duel.times.push(Times {
@@ -81,15 +79,13 @@ impl Duel {
     }
 }
 
-/// Another answer than ours ends the benchmark: one of the two is wrong, and figures for it would
-/// say nothing.
 fn agree(job: &Job, peer: &Peer, ours: Answer, theirs: Answer) {
     if ours != theirs {
-        eprintln!(
-            "bench: {} disagrees on job {}: {theirs:?}, ours {ours:?}\n{}",
-            peer.name, job.name, job.text
+        let words = format!(
+            "{} disagrees on job {}: {theirs:?}, ours {ours:?}",
+            peer.name, job.name
         );
-        std::process::exit(1);
+        disagreement(&words, &job.text);
     }
 }
 
@@ -212,11 +208,7 @@ fn hard_row(job: &Job, peers: &[Peer], limit: u32, lent: &mut Lent) -> Vec<Strin
         Answer::Impossible => "impossible".to_string(),
         Answer::Split { extracts, columns } => format!("{extracts} extracts, {columns} columns"),
     };
-    let times = (0..REPEATS).map(|_| {
-        1e3 * clock::timed(|| {
-            lent.plan(&job.numbers);
-        })
-    });
+    let times = (0..REPEATS).map(|_| 1e3 * clock::timed(|| lent.plan(&job.numbers)));
     let mut row = vec![job.name.clone(), answer, Spread::new(times).shown()];
     for peer in peers {
         let duel = Duel::new(job, peer, limit, lent);

@@ -9,7 +9,7 @@ use crate::library::{Lent, NEEDS};
 use crate::plain;
 use crate::random::Random;
 use crate::spread::{median, number, Spread};
-use crate::table::{table, REPEATED};
+use crate::table::{disagreement, table, REPEATED};
 use crate::vjolthar::{COLUMNS, FORBIDDEN, NAME_BYTES, TEXT};
 
 const REPEATS: usize = 15;
@@ -54,10 +54,8 @@ fn row(name: &str, texts: &[Vec<u8>], lent: &mut Lent) -> Vec<String> {
         refused += usize::from(agree(text, lent) != 0);
         let mut pairs = Vec::new();
         for _ in 0..REPEATS {
-            let seconds = clock::timed(|| {
-                lent.read(text);
-            });
-            pairs.push((seconds, clock::timed(|| drop(plain_read(text)))));
+            let seconds = clock::timed(|| lent.read(text));
+            pairs.push((seconds, clock::timed(|| plain_read(text))));
         }
         let ratio = Spread::new(pairs.iter().map(|pair| pair.1 / pair.0));
         ours.push(1e6 * median(pairs.iter().map(|pair| pair.0)));
@@ -97,12 +95,11 @@ fn agree(text: &[u8], lent: &mut Lent) -> u16 {
         && lent.marks[..ours.marked] == theirs.marks
         && lent.names[..names.len()] == names;
     if !same {
-        let shown = String::from_utf8_lossy(text);
-        eprintln!(
-            "bench: the plain reader disagrees: {theirs:?}, ours {} at {}\n{shown}",
+        let words = format!(
+            "the plain reader disagrees: {theirs:?}, ours {} at {}",
             ours.refusal, ours.place
         );
-        std::process::exit(1);
+        disagreement(&words, &String::from_utf8_lossy(text));
     }
     ours.refusal
 }

@@ -21,6 +21,13 @@ pub fn table(head: &[&str], rows: &[Vec<String>]) {
     println!();
 }
 
+/// Another answer than ours ends the benchmark: one of the two is wrong, and figures for it would
+/// say nothing.
+pub fn disagreement(words: &str, text: &str) -> ! {
+    progress(&format!("{words}\n{text}"));
+    std::process::exit(1);
+}
+
 pub fn progress(words: &str) {
     eprintln!("bench: {words}");
 }
