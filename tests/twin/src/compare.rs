@@ -4,7 +4,7 @@
 use crate::cases::{
     text_account, DiagramCase, JudgeCase, Lent, PathsCase, PlanCase, ReadCase, ReportCase,
 };
-use crate::ours;
+use crate::ours::{self, vjolthar::NODES};
 use std::fmt::{Debug, Display, Formatter, Result as Written};
 use twin::diagram::NodeSlices;
 
@@ -162,7 +162,7 @@ pub fn one_paths(case: &PathsCase) -> Compared {
         .diagram
         .nodes
         .iter()
-        .all(|slice| slice.length() >= 8445);
+        .all(|slice| slice.length() >= NODES);
     let outcome = match twin.0.refusal {
         8 if long_enough => Outcome::TooManyPaths,
         refusal => Outcome::Refusal(refusal),

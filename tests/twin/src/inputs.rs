@@ -3,6 +3,7 @@
 
 use crate::cases::{DiagramCase, JobCase, Lent, PathsCase, PlanCase, ReadCase, ReportCase};
 use crate::chance::Chance;
+use crate::ours::vjolthar::{EXTRACTS, FORBIDDEN, MARKS, NAMES, NODES, PAGE, PATHS};
 use twin::diagram::NodeSlices;
 use twin::text::END_OF_NEED;
 
@@ -33,16 +34,16 @@ fn lent_bytes(chance: &mut Chance, enough: usize) -> Lent<u8> {
 pub fn read(chance: &mut Chance, text: Vec<u8>) -> ReadCase {
     ReadCase {
         text,
-        forbidden: lent_numbers(chance, 32),
-        marks: lent_numbers(chance, 512),
-        names: lent_bytes(chance, 192),
+        forbidden: lent_numbers(chance, FORBIDDEN),
+        marks: lent_numbers(chance, MARKS),
+        names: lent_bytes(chance, NAMES),
     }
 }
 
 pub fn report(chance: &mut Chance, text: Vec<u8>) -> ReportCase {
     ReportCase {
         text,
-        page: lent_bytes(chance, 296),
+        page: lent_bytes(chance, PAGE),
     }
 }
 
@@ -50,7 +51,7 @@ pub fn diagram(chance: &mut Chance, job: JobCase) -> DiagramCase {
     DiagramCase {
         chosen: chosen(chance, &job),
         job,
-        nodes: [8445; 3].map(|enough| lent_numbers(chance, enough)),
+        nodes: [NODES; 3].map(|enough| lent_numbers(chance, enough)),
     }
 }
 
@@ -80,13 +81,13 @@ pub fn one_paths(chance: &mut Chance, job: JobCase) -> PathsCase {
 }
 
 fn path_count(case: &DiagramCase) -> usize {
-    let [mut column, mut low, mut high] = [vec![0; 8445], vec![0; 8445], vec![0; 8445]];
+    let [mut column, mut low, mut high] = [vec![0; NODES], vec![0; NODES], vec![0; NODES]];
     let mut nodes = NodeSlices {
         column: &mut column,
         low: &mut low,
         high: &mut high,
     };
-    let (mut ones, mut zeros) = (vec![0; 32_768], vec![0; 32_768]);
+    let (mut ones, mut zeros) = (vec![0; PATHS], vec![0; PATHS]);
     let numbers = case.job.numbers();
     let answer = twin::diagram::one_paths(numbers, case.chosen, &mut nodes, &mut ones, &mut zeros);
     answer.paths.into()
@@ -95,6 +96,6 @@ fn path_count(case: &DiagramCase) -> usize {
 pub fn plan(chance: &mut Chance, job: JobCase) -> PlanCase {
     PlanCase {
         job,
-        extracts: lent_numbers(chance, 8),
+        extracts: lent_numbers(chance, EXTRACTS),
     }
 }

@@ -1,6 +1,7 @@
 //! The paper's own cases, tried on the twin alone: a twin that is wrong would prove nothing.
 
 use differential::chance::Chance;
+use differential::ours::vjolthar::{EXTRACTS, NODES, PAGE};
 use differential::texts::longest;
 use twin::diagram::{one_paths, NodeSlices};
 use twin::jobs::Numbers;
@@ -75,7 +76,7 @@ impl Plan {
     }
 
     fn right(&self) -> bool {
-        let mut extracts = [OLD; 9];
+        let mut extracts = [OLD; EXTRACTS + 1];
         let answer = plan(self.numbers(), &mut extracts);
         let split = self.split.unwrap_or_default();
         let refusal = if self.split.is_some() { 0 } else { 9 };
@@ -123,7 +124,7 @@ const DIAGRAMS: [Diagram; 4] = [
 
 impl Diagram {
     fn right(&self) -> bool {
-        let [mut column, mut low, mut high] = [[OLD; 8445]; 3];
+        let [mut column, mut low, mut high] = [[OLD; NODES]; 3];
         let [mut ones, mut zeros] = [[OLD; 3]; 2];
         let mut nodes = NodeSlices {
             column: &mut column,
@@ -167,7 +168,7 @@ const EXAMPLES: [(&str, &[u8], &[u8]); 6] = [
 ];
 
 fn page_of(text: &[u8]) -> Vec<u8> {
-    let mut page = [0; 296];
+    let mut page = [0; PAGE];
     let answer = report(text, &mut page);
     page[..answer.length].to_vec()
 }

@@ -5,7 +5,7 @@
 //! number which is never written shows.
 
 #[path = "../../../include/vjolthar.rs"]
-mod vjolthar;
+pub mod vjolthar;
 
 use std::sync::atomic::{AtomicBool, Ordering};
 use twin::diagram::{DiagramAnswer, NodeSlices, PathsAnswer};
