@@ -1,4 +1,5 @@
-//! The paper's own cases, tried on the twin alone: a twin that is wrong would prove nothing.
+//! The paper's own cases and the examples, tried on the twin alone: a twin that is wrong would
+//! prove nothing.
 
 use differential::chance::Chance;
 use differential::ours::vjolthar::{EXTRACTS, NODES, PAGE};

@@ -1,7 +1,8 @@
 //! The differential run: the library and its twin on the same inputs.
 //!
-//! `twin [CASES [SEED]]`. The last line is 'N passed, M failed', where each call that is compared
-//! and each known case of the twin counts once, however many inputs were tried.
+//! `tests/twin/run` builds it and starts it with its own arguments. The last line is
+//! 'N passed, M failed', where each call that is compared and each known case of the twin counts
+//! once, however many inputs were tried.
 
 mod known;
 
@@ -130,6 +131,7 @@ fn main() -> ExitCode {
         }
     }
 }
+
 fn asked(arguments: &[String]) -> Option<Run> {
     if arguments.len() > 2 {
         return None;
