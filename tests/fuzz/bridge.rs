@@ -7,7 +7,8 @@
 mod bytes;
 
 use differential::chance::Chance;
-use differential::{compare, inputs};
+use differential::compare::Input;
+use differential::{inputs, ours};
 
 /// Compares all six calls on inputs made of these bytes; answers 0 exactly if they agree.
 ///
@@ -30,15 +31,17 @@ pub unsafe extern "C" fn twin_compare(data: *const u8, count: usize) -> i32 {
 }
 
 fn agree(data: &[u8]) -> Result<(), String> {
-    // Slice lengths and old contents hang on the bytes alone, so that a found input stays one.
+    // Slice lengths, old contents and null pointers hang on the bytes alone, so that a found input
+    // stays one.
     let sum = data.iter().map(|&byte| u64::from(byte)).sum();
     let chance = &mut Chance::new(sum, data.len() as u64);
-    compare::read(&inputs::read(chance, data.to_vec()))?;
-    compare::report(&inputs::report(chance, data.to_vec()))?;
+    ours::set_null_turn(sum % 2 == 1);
+    inputs::read(chance, data.to_vec()).compare()?;
+    inputs::report(chance, data.to_vec()).compare()?;
     let judged = bytes::judged(data);
-    compare::judge(&judged)?;
-    compare::plan(&inputs::plan(chance, judged.job.clone()))?;
-    compare::diagram(&inputs::diagram(chance, judged.job.clone()))?;
-    compare::one_paths(&inputs::one_paths(chance, judged.job))?;
+    judged.compare()?;
+    inputs::plan(chance, judged.job.clone()).compare()?;
+    inputs::diagram(chance, judged.job.clone()).compare()?;
+    inputs::one_paths(chance, judged.job).compare()?;
     Ok(())
 }

@@ -4,116 +4,32 @@
 //! 'N passed, M failed', where each call that is compared and each known case of the twin counts
 //! once, however many inputs were tried.
 
+mod begun;
+mod calls;
 mod known;
 
-use differential::chance::Chance;
-use differential::compare::Outcome::{self, Fault, Plan, Refusal, TooManyPaths};
-use differential::compare::{self, Compared};
-use differential::{inputs, numbers, splits, texts};
+use begun::Begun;
+use calls::{Call, CALLS};
+use differential::compare::{Input, Outcome};
 use std::collections::BTreeMap;
+use std::io::Write;
 use std::process::ExitCode;
 
 const USUAL_CASES: u64 = 4000;
 const USUAL_SEED: u64 = 20_240_601;
 
-/// A call to be compared.
-struct Call {
-    name: &'static str,
-    /// Inputs for each case: cheap calls get more of them.
-    inputs: u64,
-    compare: fn(&mut Chance) -> Compared,
-    /// What an input can lead to; all of these have to be met in the usual run.
-    outcomes: &'static [Outcome],
-}
+const USAGE: &str = "twin: the arguments are [CASES [SEED]], both numbers, CASES not 0, \
+    or --only CALL INPUT SEED";
 
-const CALLS: [Call; 6] = [
-    Call {
-        name: "read",
-        inputs: 40,
-        compare: |chance| {
-            let text = texts::text(chance);
-            compare::read(&inputs::read(chance, text))
-        },
-        outcomes: &[
-            Refusal(0),
-            Refusal(1),
-            Refusal(2),
-            Refusal(3),
-            Refusal(4),
-            Refusal(5),
-            Refusal(6),
-            Refusal(8),
-        ],
+enum Asked {
+    All(Run),
+    /// The input with this number of the call at this place in the list.
+    Only {
+        place: usize,
+        number: u64,
+        seed: u64,
     },
-    Call {
-        name: "diagram",
-        inputs: 2,
-        compare: |chance| {
-            let job = numbers::job(chance);
-            compare::diagram(&inputs::diagram(chance, job))
-        },
-        outcomes: &[Refusal(0), Refusal(7), Refusal(8)],
-    },
-    Call {
-        name: "one_paths",
-        inputs: 2,
-        compare: |chance| {
-            let job = numbers::job(chance);
-            compare::one_paths(&inputs::one_paths(chance, job))
-        },
-        outcomes: &[Refusal(0), Refusal(7), Refusal(8), TooManyPaths],
-    },
-    Call {
-        name: "judge",
-        inputs: 4,
-        compare: |chance| {
-            let job = numbers::job(chance);
-            compare::judge(&splits::judged(chance, job))
-        },
-        outcomes: &[Refusal(7), Fault(0), Fault(1), Fault(2), Fault(3), Fault(4)],
-    },
-    Call {
-        name: "plan",
-        inputs: 2,
-        compare: |chance| {
-            let job = numbers::job(chance);
-            compare::plan(&inputs::plan(chance, job))
-        },
-        outcomes: &[
-            Plan(0),
-            Plan(1),
-            Plan(2),
-            Plan(3),
-            Plan(4),
-            Plan(5),
-            Plan(6),
-            Plan(7),
-            Plan(8),
-            Refusal(7),
-            Refusal(8),
-            Refusal(9),
-        ],
-    },
-    Call {
-        name: "report",
-        inputs: 4,
-        compare: |chance| {
-            let text = texts::text(chance);
-            compare::report(&inputs::report(chance, text))
-        },
-        outcomes: &[
-            Refusal(0),
-            Refusal(1),
-            Refusal(2),
-            Refusal(3),
-            Refusal(4),
-            Refusal(5),
-            Refusal(6),
-            Refusal(8),
-            Refusal(9),
-        ],
-    },
-];
+}
 
 /// How many inputs, from which seed, and whether every outcome has to be met.
 struct Run {
@@ -122,72 +38,109 @@ struct Run {
     usual: bool,
 }
 
+/// What was tried and whether all was as expected.
+type Results = Vec<(String, bool)>;
+
 fn main() -> ExitCode {
-    match asked(&std::env::args().skip(1).collect::<Vec<_>>()) {
-        Some(run) => run.all(),
-        None => {
-            eprintln!("twin: the arguments are [CASES [SEED]], both numbers, CASES not 0");
-            ExitCode::from(2)
+    let arguments: Vec<String> = std::env::args().skip(1).collect();
+    let arguments: Vec<&str> = arguments.iter().map(String::as_str).collect();
+    let results = match asked(&arguments) {
+        Some(Asked::All(run)) => run.all(),
+        Some(Asked::Only {
+            place,
+            number,
+            seed,
+        }) => {
+            let name = CALLS[place].name;
+            // This comes first because the making of an input asks the twin, and it may crash.
+            println!("twin: {name}, seed {seed}, input {number}");
+            let agreed = agree_alone(calls::input(place, number, seed).as_ref());
+            vec![(name.to_string(), agreed)]
         }
-    }
+        None => {
+            eprintln!("{USAGE}");
+            return ExitCode::from(2);
+        }
+    };
+    told(&results)
 }
 
-fn asked(arguments: &[String]) -> Option<Run> {
-    if arguments.len() > 2 {
-        return None;
-    }
+fn asked(arguments: &[&str]) -> Option<Asked> {
     let number = |place: usize, usual: u64| match arguments.get(place) {
         Some(argument) => argument.parse().ok(),
         None => Some(usual),
     };
-    let run = Run {
-        cases: number(0, USUAL_CASES)?,
-        seed: number(1, USUAL_SEED)?,
-        usual: arguments.is_empty(),
-    };
-    (run.cases > 0).then_some(run)
+    match arguments {
+        ["--only", name, input, seed] => Some(Asked::Only {
+            place: CALLS.iter().position(|call| call.name == *name)?,
+            number: input.parse().ok()?,
+            seed: seed.parse().ok()?,
+        }),
+        [] | [_] | [_, _] => {
+            let run = Run {
+                cases: number(0, USUAL_CASES)?,
+                seed: number(1, USUAL_SEED)?,
+                usual: arguments.is_empty(),
+            };
+            (run.cases > 0).then_some(Asked::All(run))
+        }
+        _ => None,
+    }
+}
+
+/// Prints what failed and how many passed.
+fn told(results: &Results) -> ExitCode {
+    let failed: Vec<_> = results.iter().filter(|(_, right)| !right).collect();
+    for (name, _) in &failed {
+        println!("twin: {name}: NOT AS EXPECTED");
+    }
+    let passed = results.len() - failed.len();
+    println!("{passed} passed, {} failed", failed.len());
+    ExitCode::from(u8::from(!failed.is_empty()))
+}
+
+/// Compares one input, all of which is printed before either side gets it.
+fn agree_alone(input: &dyn Input) -> bool {
+    print!("{}", input.account());
+    std::io::stdout()
+        .flush()
+        .expect("the output can be written");
+    let compared = input.compare();
+    match &compared {
+        Ok(outcome) => println!("twin: {}: agreed on {outcome}", input.call()),
+        Err(account) => print!("{account}"),
+    }
+    compared.is_ok()
 }
 
 impl Run {
-    /// The known cases, then all calls; prints how many passed.
-    fn all(&self) -> ExitCode {
+    /// The known cases, then all calls.
+    fn all(&self) -> Results {
+        let begun = Begun::nothing();
         let mut results = known::cases();
         for (place, call) in CALLS.iter().enumerate() {
-            results.push((call.name.to_string(), self.agree(place, call)));
+            results.push((call.name.to_string(), self.agree(place, call, &begun)));
         }
-        let failed: Vec<_> = results.iter().filter(|(_, right)| !right).collect();
-        for (name, _) in &failed {
-            println!("twin: {name}: NOT AS EXPECTED");
-        }
-        let passed = results.len() - failed.len();
-        println!("{passed} passed, {} failed", failed.len());
-        ExitCode::from(u8::from(!failed.is_empty()))
+        results
     }
 
     /// Compares one call on all its inputs and prints what was met.
-    fn agree(&self, place: usize, call: &Call) -> bool {
+    fn agree(&self, place: usize, call: &Call, begun: &Begun) -> bool {
         let mut met: BTreeMap<Outcome, u64> = BTreeMap::new();
         let inputs = self.cases.saturating_mul(call.inputs);
-        for input in 0..inputs {
-            // The place of the call goes in as well, so that no two calls get the same jobs.
-            let case = input * CALLS.len() as u64 + place as u64;
-            match (call.compare)(&mut Chance::new(self.seed, case)) {
+        for number in 0..inputs {
+            let only = format!("--only {} {number} {}", call.name, self.seed);
+            begun.note(&only);
+            match calls::input(place, number, self.seed).compare() {
                 Ok(outcome) => *met.entry(outcome).or_default() += 1,
                 Err(account) => {
-                    println!("{account}  seed {}, input {input}", self.seed);
+                    println!("{account}  seed {}, input {number}", self.seed);
+                    println!("  again: tests/twin/run {only}");
                     return false;
                 }
             }
         }
-        let counts: Vec<String> = met
-            .iter()
-            .map(|(outcome, count)| format!("{outcome}: {count}"))
-            .collect();
-        println!(
-            "twin: {}: {inputs} inputs, {}",
-            call.name,
-            counts.join(", ")
-        );
+        println!("twin: {}: {inputs} inputs, {}", call.name, counts(&met));
         let missing = call
             .outcomes
             .iter()
@@ -198,4 +151,12 @@ impl Run {
         }
         true
     }
+}
+
+fn counts(met: &BTreeMap<Outcome, u64>) -> String {
+    let counts: Vec<String> = met
+        .iter()
+        .map(|(outcome, count)| format!("{outcome}: {count}"))
+        .collect();
+    counts.join(", ")
 }

@@ -20,9 +20,16 @@ const UNWRITTEN: u16 = 0xdead;
 const UNWRITTEN_SIZE: usize = 0xdead_dead;
 
 /// An empty slice goes over by turns as the null pointer and as a dangling one: both are allowed.
+static NULL_TURN: AtomicBool = AtomicBool::new(false);
+
+/// Says whether the next empty slice has the null pointer, for an input has to be the same when it is
+/// run alone.
+pub fn set_null_turn(null: bool) {
+    NULL_TURN.store(null, Ordering::Relaxed);
+}
+
 fn null_turn(count: usize) -> bool {
-    static TURN: AtomicBool = AtomicBool::new(false);
-    count == 0 && TURN.fetch_xor(true, Ordering::Relaxed)
+    count == 0 && NULL_TURN.fetch_xor(true, Ordering::Relaxed)
 }
 
 fn given<T>(slice: &[T]) -> *const T {
