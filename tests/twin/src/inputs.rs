@@ -4,7 +4,7 @@
 use crate::cases::{DiagramCase, JobCase, Lent, PathsCase, PlanCase, ReadCase, ReportCase};
 use crate::chance::Chance;
 use crate::ours::vjolthar::{EXTRACTS, FORBIDDEN, MARKS, NAMES, NODES, PAGE, PATHS};
-use twin::diagram::NodeSlices;
+use twin::diagram::{NodeSlices, PathsAnswer};
 use twin::text::END_OF_NEED;
 
 /// A slice that is mostly as long as it has to be or a little longer, at times too short.
@@ -72,7 +72,7 @@ fn chosen(chance: &mut Chance, job: &JobCase) -> usize {
 /// The path slices are as long as there are paths, one less, or some more.
 pub fn one_paths(chance: &mut Chance, job: JobCase) -> PathsCase {
     let diagram = diagram(chance, job);
-    let paths = path_count(&diagram);
+    let paths = drawn(&diagram).paths.into();
     PathsCase {
         diagram,
         ones: lent_numbers(chance, paths),
@@ -80,7 +80,8 @@ pub fn one_paths(chance: &mut Chance, job: JobCase) -> PathsCase {
     }
 }
 
-fn path_count(case: &DiagramCase) -> usize {
+/// What the twin answers with slices that are long enough for every job.
+pub fn drawn(case: &DiagramCase) -> PathsAnswer {
     let [mut column, mut low, mut high] = [vec![0; NODES], vec![0; NODES], vec![0; NODES]];
     let mut nodes = NodeSlices {
         column: &mut column,
@@ -89,8 +90,7 @@ fn path_count(case: &DiagramCase) -> usize {
     };
     let (mut ones, mut zeros) = (vec![0; PATHS], vec![0; PATHS]);
     let numbers = case.job.numbers();
-    let answer = twin::diagram::one_paths(numbers, case.chosen, &mut nodes, &mut ones, &mut zeros);
-    answer.paths.into()
+    twin::diagram::one_paths(numbers, case.chosen, &mut nodes, &mut ones, &mut zeros)
 }
 
 pub fn plan(chance: &mut Chance, job: JobCase) -> PlanCase {

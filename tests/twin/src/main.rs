@@ -1,12 +1,13 @@
 //! The differential run: the library and its twin on the same inputs.
 //!
-//! `tests/twin/run` builds it and starts it with its own arguments. The last line is
-//! 'N passed, M failed', where each call that is compared and each known case of the twin counts
-//! once, however many inputs were tried.
+//! `tests/twin/run` builds it and starts it with the files of the stored jobs, `--` and its own
+//! arguments. The last line is 'N passed, M failed', where each known case of the twin, the stored
+//! jobs and each call that is compared count once, however many inputs were tried.
 
 mod begun;
 mod calls;
 mod known;
+mod stored;
 
 use begun::Begun;
 use calls::{Call, CALLS};
@@ -14,25 +15,29 @@ use differential::compare::{Input, Outcome};
 use std::collections::BTreeMap;
 use std::io::Write;
 use std::process::ExitCode;
+use stored::Stored;
 
 const USUAL_CASES: u64 = 4000;
 const USUAL_SEED: u64 = 20_240_601;
 
 const USAGE: &str = "twin: the arguments are [CASES [SEED]], both numbers, CASES not 0, \
-    or --only CALL INPUT SEED";
+    or --only CALL INPUT SEED, or --only stored FILE";
 
-enum Asked {
-    All(Run),
+enum Asked<'a> {
+    All(Run<'a>),
     /// The input with this number of the call at this place in the list.
     Only {
         place: usize,
         number: u64,
         seed: u64,
     },
+    /// The stored job of this file.
+    Stored(&'a str),
 }
 
-/// How many inputs, from which seed, and whether every outcome has to be met.
-struct Run {
+/// The stored jobs, how many inputs, from which seed, and whether every outcome has to be met.
+struct Run<'a> {
+    stored: &'a [&'a str],
     cases: u64,
     seed: u64,
     usual: bool,
@@ -57,6 +62,7 @@ fn main() -> ExitCode {
             let agreed = agree_alone(calls::input(place, number, seed).as_ref());
             vec![(name.to_string(), agreed)]
         }
+        Some(Asked::Stored(file)) => vec![(file.to_string(), stored_alone(file))],
         None => {
             eprintln!("{USAGE}");
             return ExitCode::from(2);
@@ -65,12 +71,15 @@ fn main() -> ExitCode {
     told(&results)
 }
 
-fn asked(arguments: &[&str]) -> Option<Asked> {
+fn asked<'a>(arguments: &'a [&str]) -> Option<Asked<'a>> {
+    let end = arguments.iter().position(|&argument| argument == "--")?;
+    let (stored, arguments) = (&arguments[..end], &arguments[end + 1..]);
     let number = |place: usize, usual: u64| match arguments.get(place) {
         Some(argument) => argument.parse().ok(),
         None => Some(usual),
     };
     match arguments {
+        ["--only", "stored", file] => Some(Asked::Stored(file)),
         ["--only", name, input, seed] => Some(Asked::Only {
             place: CALLS.iter().position(|call| call.name == *name)?,
             number: input.parse().ok()?,
@@ -78,6 +87,7 @@ fn asked(arguments: &[&str]) -> Option<Asked> {
         }),
         [] | [_] | [_, _] => {
             let run = Run {
+                stored,
                 cases: number(0, USUAL_CASES)?,
                 seed: number(1, USUAL_SEED)?,
                 usual: arguments.is_empty(),
@@ -113,11 +123,27 @@ fn agree_alone(input: &dyn Input) -> bool {
     compared.is_ok()
 }
 
-impl Run {
-    /// The known cases, then all calls.
+fn stored_alone(file: &str) -> bool {
+    println!("twin: {file}");
+    match Stored::new(file) {
+        Ok(stored) => stored.inputs.iter().all(|input| {
+            println!("twin: {}", input.call());
+            agree_alone(input.as_ref())
+        }),
+        Err(account) => {
+            print!("{account}");
+            false
+        }
+    }
+}
+
+impl Run<'_> {
+    /// The known cases, the stored jobs, then all calls.
     fn all(&self) -> Results {
         let begun = Begun::nothing();
         let mut results = known::cases();
+        let agreed = stored::agree(self.stored, &begun);
+        results.push(("stored jobs".to_string(), agreed));
         for (place, call) in CALLS.iter().enumerate() {
             results.push((call.name.to_string(), self.agree(place, call, &begun)));
         }

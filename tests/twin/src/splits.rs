@@ -20,7 +20,7 @@ pub fn judged(chance: &mut Chance, job: JobCase) -> JudgeCase {
 }
 
 /// The plan, or no extract at all where there is none.
-fn planned(job: &JobCase) -> Vec<u16> {
+pub fn planned(job: &JobCase) -> Vec<u16> {
     let fit = job.numbers().job();
     fit.and_then(|fit| best_split(&fit)).unwrap_or_default()
 }
