@@ -4,6 +4,9 @@ ghost use Prim.Native.Nat.{min};
 ghost use lib.Dec.{eqb};
 ghost use Rattle.rules.specs.Sets.{mostColumns, has, contains, apart, size, empty, full, union, without, within};
 
+// How many sets of 16 columns there are: a table with a place for each set has so many.
+pub const ALL_SETS: usize = 65536;
+
 pub struct ColumnSet {
     pub bits: u16,
 }

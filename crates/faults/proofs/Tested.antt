@@ -10,7 +10,7 @@ use Rattle.rules.specs.Sets.{mostColumns}
 use Rattle.rules.specs.Refusals.{nameTwice, nameUnknown}
 use Rattle.rules.specs.Names.{Spot, sameName}
 use Rattle.rules.specs.Texts.{Line}
-use Rattle.rules.specs.Sheets.{columnOf, standsIn, firstNameFault, linesFault, columnFault, needFault, forbidFault}
+use Rattle.rules.specs.Sheets.{columnNamed, standsIn, firstNameFault, linesFault, columnFault, needFault, forbidFault}
 use Rattle.rules.proofs.Lists.{none-first}
 use Rattle.rules.proofs.ListTests.{first-below}
 use Rattle.naming.specs.Words.{Between}
@@ -30,11 +30,11 @@ pub once : (before : List Spot) (x : Spot) → standsIn before x ≡ false → n
 unfolding columnFault numberIn
 once before x e = rw e
 
-module _ (columns before : List Spot) (x : Spot) {r : ℕ} (found : r ≡ Option·getD (columnOf columns (x .name)) mostColumns)
+module _ (columns before : List Spot) (x : Spot) {r : ℕ} (found : r ≡ Option·getD (columnNamed columns (x .name)) mostColumns)
     (few : length columns ≤ mostColumns) where
   -- a name that is no column is unknown
   pub not-known : r ≡ mostColumns → numberIn nameUnknown ≡ needFault columns before x
-  unfolding needFault numberIn standsIn columnOf
+  unfolding needFault numberIn standsIn columnNamed
   not-known e = go (standsIn columns x) refl
     where
       go : (b : Bool) → standsIn columns x ≡ b → _≡_ {A = Option ℕ} (some nameUnknown) (cond b none (some nameUnknown))
@@ -45,7 +45,7 @@ module _ (columns before : List Spot) (x : Spot) {r : ℕ} (found : r ≡ Option
 
   -- else it is known
   pub known : (r ≡ mostColumns → ⊥) → numberIn 0 ≡ needFault columns before x
-  unfolding needFault numberIn standsIn columnOf
+  unfolding needFault numberIn standsIn columnNamed
   known n = go (standsIn columns x) refl
     where
       none-there : standsIn columns x ≡ false → r ≡ mostColumns

@@ -2,4 +2,5 @@
 pub mod Slices
 pub mod Building
 pub mod Buckets
+pub mod Rebuilding
 pub mod Growing

@@ -7,7 +7,7 @@ use Prim.Native.Nat.{ℕ}
 use Rattle.rules.specs.Jobs.{Job}
 use Rattle.rules.specs.Numbers.{Numbers, unfit, jobOf}
 use Rattle.rules.specs.Splits.{Correct}
-use Rattle.rules.specs.Verdicts.{Verdict as Said, unfitJob, improper, forbids, shares, unmet, right, refusalOf, verdict, judged}
+use Rattle.rules.specs.Verdicts.{Verdict as Said, unfitJob, improper, forbids, shares, unmet, right, refusalOf, verdict}
 use Rattle.rules.specs.Refusals.{numbersUnfit}
 use Rattle.rules.specs.Demands.{AsksNoMore}
 use Rattle.rules.proofs.Splits.{correct-means, means-correct}

@@ -1,6 +1,6 @@
 // The fault of a need that no extract meets.
 use job::fitness::Found;
-use job::rows::MOST_MARKS;
+use job::rows::MOST_NEED_MARKS;
 use job::rows::MOST_NEEDS;
 ghost use mathlib.Core.Path.{_≡_};
 ghost use mathlib.Core.List.{List};
@@ -15,7 +15,7 @@ ghost use Rattle.job.specs.Findings.{placeOf};
 ghost use Rattle.job.specs.Rows.{StandFor};
 
 // Whether an extract meets the need of a row.
-fn need_met(row: &[u16; MOST_MARKS], split: &[u16]) -> bool
+fn need_met(row: &[u16; MOST_NEED_MARKS], split: &[u16]) -> bool
     ensures { λ r. ⌜ ((v : Need) → needOf (beforeEnd (now (row .entry))) ≡ some v → r ≡ met (now (split .entry)) v) ⌝ }
 {
     let mut i = 0;
@@ -29,7 +29,7 @@ fn need_met(row: &[u16; MOST_MARKS], split: &[u16]) -> bool
 }
 
 // The first of so many needs, each in its row, that no extract meets.
-pub fn first_unmet(rows: [[u16; MOST_MARKS]; MOST_NEEDS], count: usize, split: &[u16]) -> Found
+pub fn first_unmet(rows: [[u16; MOST_NEED_MARKS]; MOST_NEEDS], count: usize, split: &[u16]) -> Found
     requires { ⌜ count ≤ 8 ⌝ }
     ensures { λ r. ⌜ ((needs : List Need) → length needs ≡ count → StandFor rows needs → placeOf r ≡ firstUnmet needs (now (split .entry))) ⌝ }
 {

@@ -11,7 +11,7 @@ use Rattle.rules.specs.Lists.{anyOf, firstWhere}
 use Rattle.rules.specs.Sets.{mostColumns}
 use Rattle.rules.specs.Signs.{byteAt, piece, inName}
 use Rattle.rules.specs.Names.{Spot, Run, sameName}
-use Rattle.rules.specs.Sheets.{columnOf, columnIn, standsIn}
+use Rattle.rules.specs.Sheets.{columnNamed, columnIn, standsIn}
 use Rattle.rules.proofs.Lists.{none-first}
 use Rattle.rules.proofs.ListTests.{first-below}
 use Rattle.naming.specs.Words.{isSign, Skips, Between, Words}
@@ -86,35 +86,35 @@ pub record Sought (s : List ℕ) (place q column : ℕ) (name : List ℕ) (colum
   later : List Spot
   ahead : Ahead s place q later
   many : column + length later ≡ length columns
-  finds : columnOf columns name ≡ Option·map (λ k. column + k) (columnOf later name)
+  finds : columnNamed columns name ≡ Option·map (λ k. column + k) (columnNamed later name)
 
 -- past the signs it is sought among all of the columns
 pub sought-start : {s : List ℕ} {p place q : ℕ} {name : List ℕ} {columns : List Spot} → Words s p q columns → Skips s p place
     → Sought s place q 0 name columns
 sought-start {s} {p} {place} {q} {name} {columns} w k =
-    record { later = columns; ahead = ahead-start w k; many = omega arith; finds = go (columnOf columns name) }
+    record { later = columns; ahead = ahead-start w k; many = omega arith; finds = go (columnNamed columns name) }
   where
     go : (o : Option ℕ) → o ≡ Option·map (λ k. 0 + k) o
     go none = refl
     go (some k) = rw zero-add
 
 module _ {s : List ℕ} {place q column : ℕ} {name : List ℕ} {columns : List Spot} (sought : Sought s place q column name columns) where
-  sought-nothing : sought .later ≡ [] → Option·getD (columnOf columns name) mostColumns ≡ mostColumns
-  unfolding columnOf firstWhere
+  sought-nothing : sought .later ≡ [] → Option·getD (columnNamed columns name) mostColumns ≡ mostColumns
+  unfolding columnNamed firstWhere
   sought-nothing e = rw (sought .finds, e)
 
   -- where no name stands it is no column
-  pub sought-none : inName (byteAt s place) ≡ false → Option·getD (columnOf columns name) mostColumns ≡ mostColumns
+  pub sought-none : inName (byteAt s place) ≡ false → Option·getD (columnNamed columns name) mostColumns ≡ mostColumns
   sought-none e = sought-nothing (ahead-end (sought .ahead) e .1)
 
   -- when 16 columns are past it is no column
-  pub sought-all : mostColumns ≤ column → length columns ≤ mostColumns → Option·getD (columnOf columns name) mostColumns ≡ mostColumns
+  pub sought-all : mostColumns ≤ column → length columns ≤ mostColumns → Option·getD (columnNamed columns name) mostColumns ≡ mostColumns
   sought-all h few = sought-nothing (none-left (sought .later) (omega (arith, sought .many)))
 
   -- where the same name stands it is that column
   pub sought-here : inName (byteAt s place) ≡ true → ((r : ℕ) → Run s place r → sameName (piece s place r) name ≡ true)
-      → Option·getD (columnOf columns name) mostColumns ≡ column
-  unfolding columnOf firstWhere
+      → Option·getD (columnNamed columns name) mostColumns ≡ column
+  unfolding columnNamed firstWhere
   sought-here e same =
       let f = words-some (sought .ahead .words) e in
       rw (sought .finds, f .1 .same, same (f .0) (f .1 .name .run)) (omega arith)
@@ -122,14 +122,14 @@ module _ {s : List ℕ} {place q column : ℕ} {name : List ℕ} {columns : List
   -- past another name it is sought among those behind that one
   pub sought-next : {r next : ℕ} → inName (byteAt s place) ≡ true → Run s place r → sameName (piece s place r) name ≡ false → Skips s r next
       → Sought s next q (column + 1) name columns
-  unfolding columnOf firstWhere
+  unfolding columnNamed firstWhere
   sought-next {r} {next} e run other k =
       let f = ahead-turn (sought .ahead) e run k in
       record {
         later = f .later;
         ahead = f .ahead;
         many = omega (arith, sought .many, ap (λ (xs : List Spot). length xs) (f .same));
-        finds = sought .finds ∙ ap (λ (xs : List Spot). Option·map (λ k. column + k) (columnOf xs name)) (f .same) ∙ rw other (go (columnOf (f .later) name));
+        finds = sought .finds ∙ ap (λ (xs : List Spot). Option·map (λ k. column + k) (columnNamed xs name)) (f .same) ∙ rw other (go (columnNamed (f .later) name));
       }
     where
       go : (o : Option ℕ) → Option·map (λ k. column + k) (Option·map suc o) ≡ Option·map (λ k. column + 1 + k) o
@@ -138,11 +138,11 @@ module _ {s : List ℕ} {place q column : ℕ} {name : List ℕ} {columns : List
 
 -- ---- the column, or 0
 
-module _ (columns : List Spot) (x : Spot) {r : ℕ} (found : r ≡ Option·getD (columnOf columns (x .name)) mostColumns) where
+module _ (columns : List Spot) (x : Spot) {r : ℕ} (found : r ≡ Option·getD (columnNamed columns (x .name)) mostColumns) where
   -- a column that was found is the name's column
   pub known-column : r < mostColumns → r ≡ columnIn columns x
   unfolding columnIn
-  known-column h = go (columnOf columns (x .name)) found
+  known-column h = go (columnNamed columns (x .name)) found
     where
       go : (o : Option ℕ) → r ≡ Option·getD o mostColumns → r ≡ Option·getD o 0
       go none e = absurd (omega arith)
@@ -150,7 +150,7 @@ module _ (columns : List Spot) (x : Spot) {r : ℕ} (found : r ≡ Option·getD 
 
   -- where none was found the name's column is 0
   pub unknown-column : length columns ≤ mostColumns → mostColumns ≤ r → 0 ≡ columnIn columns x
-  unfolding columnIn columnOf standsIn
+  unfolding columnIn columnNamed standsIn
   unknown-column few h = go (standsIn columns x) refl
     where
       same : Spot → Bool

@@ -13,7 +13,7 @@ ghost use lib.ListN.{length};
 ghost use Rattle.rules.specs.Sets.{mostColumns};
 ghost use Rattle.rules.specs.Signs.{piece};
 ghost use Rattle.rules.specs.Names.{Spot, spot, Run};
-ghost use Rattle.rules.specs.Sheets.{columnOf, columnIn};
+ghost use Rattle.rules.specs.Sheets.{columnNamed, columnIn};
 ghost use Rattle.naming.specs.Words.{Words, columnsFrom};
 
 // The names of the columns stand behind `columns=`.
@@ -23,7 +23,7 @@ pub const COLUMNS_FROM: usize = 8;
 pub fn column_of(text: &[u8], at: usize) -> u16
     ensures few { λ r. ⌜ r ≤ mostColumns ⌝ }
     ensures is { λ r. ⌜ ((p q : ℕ) (columns : List Spot) → Words (now (text .entry)) columnsFrom q columns → length columns ≤ mostColumns
-        → Run (now (text .entry)) at p → r ≡ Option·getD (columnOf columns (piece (now (text .entry)) at p)) mostColumns) ⌝ }
+        → Run (now (text .entry)) at p → r ≡ Option·getD (columnNamed columns (piece (now (text .entry)) at p)) mostColumns) ⌝ }
 {
     let mut column: u16 = 0;
     let mut place = next_name(text, COLUMNS_FROM);

@@ -2,7 +2,7 @@
 use columns::ColumnSet;
 use job::rows::AND_MARK;
 use job::rows::END_MARK;
-use job::rows::MOST_MARKS;
+use job::rows::MOST_NEED_MARKS;
 use job::rows::OR_MARK;
 ghost use mathlib.Core.Path.{_≡_};
 ghost use mathlib.Core.Bool.{cond};
@@ -39,12 +39,12 @@ pub fn column_lanes(column: u16, block: u16) -> u64
 
 // Which sets of a block meet the need of a row. The row's marks end at its first end mark or after 63.
 // A row that is no need gets some word: no join reaches below the first operand.
-pub fn met_lanes(row: &[u16; MOST_MARKS], block: u16) -> u64
+pub fn met_lanes(row: &[u16; MOST_NEED_MARKS], block: u16) -> u64
     ensures { λ r. ⌜ ((v : Need) → needOf (beforeEnd (now (row .entry))) ≡ some v → Lanes block (meets v) r) ⌝ }
 {
     // The proof learns how long the row is where it becomes a slice.
     let marks: &[u16] = row;
-    let mut operands = [0u64; MOST_MARKS];
+    let mut operands = [0u64; MOST_NEED_MARKS];
     let mut count = 0;
     let mut i = 0;
     while i < marks.len() {
@@ -78,7 +78,7 @@ fn joined(mark: u16, left: u64, right: u64) -> u64
 }
 
 // Whether one set meets the need of a row.
-pub fn meets(row: &[u16; MOST_MARKS], set: u16) -> bool
+pub fn meets(row: &[u16; MOST_NEED_MARKS], set: u16) -> bool
     ensures { λ r. ⌜ ((v : Need) → needOf (beforeEnd (now (row .entry))) ≡ some v → r ≡ meets v set) ⌝ }
 {
     (met_lanes(row, set / 64) >> (set % 64)) % 2 == 1

@@ -5,12 +5,12 @@ use libc::STDIN_FILENO;
 use naming::words::line_end;
 use spelt::spelling;
 ghost use Prim.Native.Nat.{_≤_};
-ghost use lib.ListN.{length as lengthOf};
+ghost use lib.ListN.{length};
 
 fn main() {
     let mut input = io::large_buffer();
-    let length = io::read_full(STDIN_FILENO, &mut input);
-    run(&input[..length]);
+    let end = io::read_full(STDIN_FILENO, &mut input);
+    run(&input[..end]);
     shown::rooms();
 }
 
@@ -23,10 +23,10 @@ fn run(input: &[u8]) {
 }
 
 fn one_case(input: &[u8], from: usize)
-    requires { ⌜ from ≤ lengthOf (now input) ⌝ }
+    requires { ⌜ from ≤ length (now input) ⌝ }
 {
     let named = spelling::name_end(input, from);
     let mut text = [0u8; spelling::ROOM];
-    let length = spelling::spell(input, named, &mut text);
-    shown::show(&input[from..named], &text[..length]);
+    let end = spelling::spell(input, named, &mut text);
+    shown::show(&input[from..named], &text[..end]);
 }

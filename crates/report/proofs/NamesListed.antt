@@ -12,11 +12,11 @@ use borrow.Author.Tests.{ltb-true, leb-true}
 use Rattle.rules.specs.Lists.{every, keep, upFrom}
 use Rattle.rules.specs.Sets.{has, members, mostColumns}
 use Rattle.rules.specs.Names.{mostNameBytes}
-use Rattle.rules.specs.Pages.{joined, namesAt}
+use Rattle.rules.specs.Pages.{joinedNames, namesAt}
 use Rattle.rules.proofs.Lists.{and-parts, every-in, getD-in}
 use Rattle.rules.proofs.ListTests.{keep-append}
 use Rattle.rules.proofs.Counting.{upFrom-last}
-use Rattle.rules.proofs.Pages.{joined-one, joined-more}
+use Rattle.rules.proofs.Pages.{joinedNames-one, joinedNames-more}
 use Rattle.writing.specs.Added.{Adds}
 use Rattle.writing.proofs.Adding.{adds-nothing, adds-both, adds-next, adds-all}
 use Rattle.text.proofs.NamesBack.{table-byte}
@@ -94,10 +94,10 @@ abbrev pub seen : ℕ → ℕ → List ℕ
 seen s k = keep (λ i. has i s) (upFrom 0 k)
 
 -- one name more, parted from those before
-joined-next : (names : List (List ℕ)) (name : List ℕ) → joined (names ++ (name ∷ [])) ≡ joined names ++ (parted (noneOf names) ++ name)
-unfolding joined
-joined-next [] name = joined-one name
-joined-next (first ∷ names) name = joined-more first names name
+joinedNames-next : (names : List (List ℕ)) (name : List ℕ) → joinedNames (names ++ (name ∷ [])) ≡ joinedNames names ++ (parted (noneOf names) ++ name)
+unfolding joinedNames
+joinedNames-next [] name = joinedNames-one name
+joinedNames-next (first ∷ names) name = joinedNames-more first names name
 
 namesAt-next : (names : List (List ℕ)) (columns : List ℕ) (k : ℕ) → namesAt names (columns ++ (k ∷ [])) ≡ namesAt names columns ++ (getD names k [] ∷ [])
 unfolding namesAt
@@ -123,11 +123,11 @@ pub record Listed (table : List ℕ) (s : ℕ) (at : ℕ) (old : List ℕ) (firs
   pub few : column ≤ mostColumns
   pub long : length new ≡ length old
   pub none : first ≡ noneOf (seen s column)
-  pub adds : (names : List (List ℕ)) → Named table names → Adds (joined (namesAt names (seen s column))) at old next new
+  pub adds : (names : List (List ℕ)) → Named table names → Adds (joinedNames (namesAt names (seen s column))) at old next new
 
 module _ {table : List ℕ} {s at : ℕ} {old : List ℕ} where
   pub listed-none : Listed table s at old true 0 at old
-  unfolding upFrom keep namesAt joined
+  unfolding upFrom keep namesAt joinedNames
   listed-none = record { few = omega arith; long = refl; none = refl; adds = λ names is. adds-nothing at old }
 
   module _ {first : Bool} {column next : ℕ} {new : List ℕ} (l : Listed table s at old first column next new) (more : column < mostColumns) where
@@ -147,7 +147,7 @@ module _ {table : List ℕ} {s at : ℕ} {old : List ℕ} where
               rw (
                 seen-too,
                 namesAt-next names (seen s column) column,
-                joined-next (namesAt names (seen s column)) (getD names column []),
+                joinedNames-next (namesAt names (seen s column)) (getD names column []),
                 namesAt-none names (seen s column),
                 ← (l .none),
               )
@@ -168,7 +168,7 @@ module _ {table : List ℕ} {s at : ℕ} {old : List ℕ} where
 
   -- after all columns
   pub listed-all : {first : Bool} {column next : ℕ} {new : List ℕ} → Listed table s at old first column next new → mostColumns ≤ column
-      → (names : List (List ℕ)) → Named table names → Adds (joined (namesAt names (members s))) at old next new
+      → (names : List (List ℕ)) → Named table names → Adds (joinedNames (namesAt names (members s))) at old next new
   unfolding members
   listed-all {column = column} l h names is =
       let all : column ≡ mostColumns = omega (arith, h, l .few) in

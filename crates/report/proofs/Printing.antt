@@ -6,8 +6,8 @@ use native.Mathlib.Numerals.{add-one}
 use lib.ListN.{length, getD, take}
 use lib.Seq.{take-suc, take-all}
 use Rattle.rules.specs.Sets.{members}
-use Rattle.rules.specs.Words.{line}
-use Rattle.rules.specs.Pages.{Outcome, joined, namesAt, extractLines, page}
+use Rattle.rules.specs.Words.{keyedLine}
+use Rattle.rules.specs.Pages.{Outcome, joinedNames, namesAt, extractLines, page}
 use Rattle.rules.proofs.Pages.{lines-more}
 use Rattle.writing.specs.Added.{Adds}
 use Rattle.writing.proofs.Adding.{holds-added, adds-both}
@@ -16,7 +16,7 @@ use Rattle.report.specs.Promises.{reportedOf, Prints}
 -- the lines of the first i extracts are put, and then that of the next
 pub extracts-next : (names : List (List ℕ)) (split : List ℕ) (i : ℕ) {at middle last : ℕ} {page between new : List ℕ} → i < length split
     → Adds (extractLines names (take i split)) at page middle between
-    → Adds (line "extract=" (joined (namesAt names (members (getD split i 0))))) middle between last new
+    → Adds (keyedLine "extract=" (joinedNames (namesAt names (members (getD split i 0))))) middle between last new
     → Adds (extractLines names (take (i + 1) split)) at page last new
 extracts-next names split i h a b = rw (add-one, take-suc split i 0 h, lines-more names (take i split) (getD split i 0)) (adds-both a b)
 

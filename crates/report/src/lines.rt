@@ -10,8 +10,8 @@ ghost use Prim.Native.Nat.{ℕ};
 ghost use lib.ListN.{getD};
 ghost use Rattle.rules.specs.Sets.{members};
 ghost use Rattle.rules.specs.Signs.{lineEnd};
-ghost use Rattle.rules.specs.Words.{decimal, line};
-ghost use Rattle.rules.specs.Pages.{refused, released, joined, namesAt, extractLines, page as pageOf};
+ghost use Rattle.rules.specs.Words.{decimal, keyedLine};
+ghost use Rattle.rules.specs.Pages.{refused, released, joinedNames, namesAt, extractLines, page as pageOf};
 ghost use Rattle.writing.specs.Added.{Adds};
 ghost use Rattle.report.specs.Naming.{Named, parted};
 
@@ -47,7 +47,7 @@ fn put_comma(page: &mut [u8], at: usize, first: bool) -> usize
 // The names of a set's columns, joined by commas.
 fn put_names(page: &mut [u8], at: usize, names: &[u8], set: u16) -> usize
     ensures { λ r. ⌜ ((columns : List (List ℕ)) → Named (now (names .entry)) columns
-        → Adds (joined (namesAt columns (members set))) at (now (page .entry)) r (now (page .exit))) ⌝ }
+        → Adds (joinedNames (namesAt columns (members set))) at (now (page .entry)) r (now (page .exit))) ⌝ }
 {
     let extract = ColumnSet { bits: set };
     let mut end = at;
@@ -67,7 +67,7 @@ fn put_names(page: &mut [u8], at: usize, names: &[u8], set: u16) -> usize
 // The line of an extract.
 fn put_extract(page: &mut [u8], at: usize, names: &[u8], set: u16) -> usize
     ensures { λ r. ⌜ ((columns : List (List ℕ)) → Named (now (names .entry)) columns
-        → Adds (line "extract=" (joined (namesAt columns (members set)))) at (now (page .entry)) r (now (page .exit))) ⌝ }
+        → Adds (keyedLine "extract=" (joinedNames (namesAt columns (members set)))) at (now (page .entry)) r (now (page .exit))) ⌝ }
 {
     let key = put(page, at, b"extract=");
     let value = put_names(page, key, names, set);

@@ -28,7 +28,6 @@ pub mod Diagrams
 pub mod DiagramMeanings
 pub mod DiagramSizes
 pub mod Reached
-pub mod Rebuilding
 pub mod PathSets
 pub mod Paths
 pub mod ListTests

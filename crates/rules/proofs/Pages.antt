@@ -21,8 +21,8 @@ use Rattle.rules.specs.Plannings.{planRoom}
 use Rattle.rules.specs.Texts.{Sheet, OfForm}
 use Rattle.rules.specs.Sheets.{Refusal, sheetFault, numbersOf, namesOf}
 use Rattle.rules.specs.Readings.{mostBytes, Reading, refused as notRead, taken, readingOf, Reads, too-long, not-of-form, of-form}
-use Rattle.rules.specs.Words.{bytes, digits, decimal, line}
-use Rattle.rules.specs.Pages.{Outcome, refused, released, plannedWith, outcomeOf, behindCommas, joined, namesAt, extractLines, page, mostPageBytes}
+use Rattle.rules.specs.Words.{bytes, digits, decimal, keyedLine}
+use Rattle.rules.specs.Pages.{Outcome, refused, released, plannedWith, outcomeOf, behindCommas, joinedNames, namesAt, extractLines, page, mostPageBytes}
 use Rattle.rules.proofs.Lists.{and-parts}
 use Rattle.rules.proofs.Numbers.{job-fit}
 use Rattle.rules.proofs.SetBits.{below-most}
@@ -34,7 +34,7 @@ use Rattle.rules.proofs.Readings.{reading-taken, reading-refused, refus
 use Rattle.rules.proofs.Sheets.{sheet-job}
 use Rattle.rules.proofs.SheetNames.{names-short}
 use Rattle.rules.proofs.Plannings.{planning-none, planning-planned}
-use Rattle.rules.proofs.Words.{decimal-length, line-length}
+use Rattle.rules.proofs.Words.{decimal-length, keyedLine-length}
 
 -- ---- computed pages
 
@@ -45,17 +45,17 @@ volunteers = bytes "steward" ∷ bytes "born" ∷ bytes "home" ∷ bytes "duty" 
 -- its page
 pub whole-case-page : page (released volunteers (24 ∷ 35 ∷ []))
     ≡ bytes "result=split\nextracts=2\nextract=duty,illness\nextract=steward,born,panel\n"
-unfolding bytes decimal digits line behindCommas joined namesAt extractLines page members keep upFrom
+unfolding bytes decimal digits keyedLine behindCommas joinedNames namesAt extractLines page members keep upFrom
 whole-case-page = refl
 
 -- the page of a job without needs
 pub no-extract-page : page (released volunteers []) ≡ bytes "result=split\nextracts=0\n"
-unfolding bytes decimal digits line extractLines page
+unfolding bytes decimal digits keyedLine extractLines page
 no-extract-page = refl
 
 -- the page of a refusal
 pub refusal-page : page (refused 5 8192) ≡ bytes "result=refused\nnumber=5\nplace=8192\n"
-unfolding bytes decimal digits line page
+unfolding bytes decimal digits keyedLine page
 refusal-page = refl
 
 -- ---- one more
@@ -68,25 +68,25 @@ behindCommas-more (first ∷ names) name =
     (ap (λ (l : List ℕ). first ++ l) (behindCommas-more names name) ∙ sym (append-assoc first (behindCommas names) (comma ∷ name)))
 
 -- one name alone is itself
-pub joined-one : (name : List ℕ) → joined (name ∷ []) ≡ name
-unfolding joined behindCommas
-joined-one name = append-nil name
+pub joinedNames-one : (name : List ℕ) → joinedNames (name ∷ []) ≡ name
+unfolding joinedNames behindCommas
+joinedNames-one name = append-nil name
 
 -- one name more is joined behind a comma
-pub joined-more : (first : List ℕ) (names : List (List ℕ)) (name : List ℕ)
-    → joined ((first ∷ names) ++ (name ∷ [])) ≡ joined (first ∷ names) ++ (comma ∷ name)
-unfolding joined
-joined-more first names name =
+pub joinedNames-more : (first : List ℕ) (names : List (List ℕ)) (name : List ℕ)
+    → joinedNames ((first ∷ names) ++ (name ∷ [])) ≡ joinedNames (first ∷ names) ++ (comma ∷ name)
+unfolding joinedNames
+joinedNames-more first names name =
     ap (λ (l : List ℕ). first ++ l) (behindCommas-more names name) ∙ sym (append-assoc first (behindCommas names) (comma ∷ name))
 
 -- one extract more has its line behind the others
 pub lines-more : (names : List (List ℕ)) (split : List ℕ) (s : ℕ)
-    → extractLines names (split ++ (s ∷ [])) ≡ extractLines names split ++ line "extract=" (joined (namesAt names (members s)))
+    → extractLines names (split ++ (s ∷ [])) ≡ extractLines names split ++ keyedLine "extract=" (joinedNames (namesAt names (members s)))
 unfolding extractLines
-lines-more names [] s = append-nil (line "extract=" (joined (namesAt names (members s))))
+lines-more names [] s = append-nil (keyedLine "extract=" (joinedNames (namesAt names (members s))))
 lines-more names (t ∷ split) s =
-    let first = line "extract=" (joined (namesAt names (members t))) in
-    let last = line "extract=" (joined (namesAt names (members s))) in
+    let first = keyedLine "extract=" (joinedNames (namesAt names (members t))) in
+    let last = keyedLine "extract=" (joinedNames (namesAt names (members s))) in
     ap (λ (l : List ℕ). first ++ l) (lines-more names split s) ∙ sym (append-assoc first (extractLines names split) last)
 
 -- ---- what a text comes to
@@ -157,15 +157,15 @@ outcome-ways {s} (of-form sheet l f) = go (sheetFault sheet) refl
 refusal-fits : (number place : ℕ) → number < 10 → place ≤ mostBytes → length (page (refused number place)) ≤ mostPageBytes
 unfolding page bytes
 refusal-fits number place h l =
-    let a = line-length "result=" (bytes "refused") in
-    let b = line-length "number=" (decimal number) in
-    let c = line-length "place=" (decimal place) in
+    let a = keyedLine-length "result=" (bytes "refused") in
+    let b = keyedLine-length "number=" (decimal number) in
+    let c = keyedLine-length "place=" (decimal place) in
     let d = decimal-length 0 number h in
     let e = decimal-length 3 place (omega arith) in
     omega (
       arith,
-      length-append (line "result=" (bytes "refused")) (line "number=" (decimal number) ++ line "place=" (decimal place)),
-      length-append (line "number=" (decimal number)) (line "place=" (decimal place)),
+      length-append (keyedLine "result=" (bytes "refused")) (keyedLine "number=" (decimal number) ++ keyedLine "place=" (decimal place)),
+      length-append (keyedLine "number=" (decimal number)) (keyedLine "place=" (decimal place)),
     )
 
 -- 1 to 12 bytes
@@ -189,10 +189,10 @@ module _ (names : List (List ℕ)) (short : (i : ℕ) → length (getD names i [
       omega (arith, length-append (getD names i []) (behindCommas (namesAt names columns)), short i, commas-fit columns)
 
   -- the first name stands behind no comma
-  joined-fits : (columns : List ℕ) → 0 < length columns → length (joined (namesAt names columns)) < 13 * length columns
-  unfolding joined namesAt
-  joined-fits [] h = absurd (omega arith)
-  joined-fits (i ∷ columns) h =
+  joinedNames-fits : (columns : List ℕ) → 0 < length columns → length (joinedNames (namesAt names columns)) < 13 * length columns
+  unfolding joinedNames namesAt
+  joinedNames-fits [] h = absurd (omega arith)
+  joinedNames-fits (i ∷ columns) h =
       omega (arith, length-append (getD names i []) (behindCommas (namesAt names columns)), short i, commas-fit columns)
 
   module _ (job : Job) (few : job .columns ≤ 16) where
@@ -203,25 +203,25 @@ module _ (names : List (List ℕ)) (short : (i : ℕ) → length (getD names i [
         let both = and-parts (proper job s) (every (proper job) split) e in
         let within = proper-means job s (both .0) in
         let some = size-more s (within .0) (below-most (job .columns) s few (within .1)) in
-        let value = joined (namesAt names (members s)) in
-        let a = line-length "extract=" value in
-        let b = joined-fits (members s) some in
-        let c = length-append (line "extract=" value) (extractLines names split) in
+        let value = joinedNames (namesAt names (members s)) in
+        let a = keyedLine-length "extract=" value in
+        let b = joinedNames-fits (members s) some in
+        let c = length-append (keyedLine "extract=" value) (extractLines names split) in
         let d = lines-fit split (both .1) in
         omega arith
 
     split-fits : (split : List ℕ) → correct job split ≡ true → length split ≤ 8 → length (page (released names split)) ≤ mostPageBytes
     unfolding page bytes
     split-fits split e h =
-        let a = line-length "result=" (bytes "split") in
-        let b = line-length "extracts=" (decimal (length split)) in
+        let a = keyedLine-length "result=" (bytes "split") in
+        let b = keyedLine-length "extracts=" (decimal (length split)) in
         let c = decimal-length 0 (length split) (omega arith) in
         let d = lines-fit split (correct-parts job split e .proper) in
         let f = cost-few job split few e in
         omega (
           arith,
-          length-append (line "result=" (bytes "split")) (line "extracts=" (decimal (length split)) ++ extractLines names split),
-          length-append (line "extracts=" (decimal (length split))) (extractLines names split),
+          length-append (keyedLine "result=" (bytes "split")) (keyedLine "extracts=" (decimal (length split)) ++ extractLines names split),
+          length-append (keyedLine "extracts=" (decimal (length split))) (extractLines names split),
         )
 
 -- the page of what a text comes to has at most 296 bytes

@@ -9,12 +9,12 @@ use lib.Dec.{eqb}
 use lib.Arith.{lt-one}
 use lib.ListN.{length}
 use lib.Bits.{bitAnd, and-le-r}
-use lib.Count.{ones, ones-step, ones-ones, ones-le}
+use lib.Count.{ones, ones-step, ones-le}
 use Rattle.rules.specs.Lists.{keep, upFrom}
-use Rattle.rules.specs.Sets.{has, members, contains, apart, size, full, union, without}
+use Rattle.rules.specs.Sets.{has, members, contains, apart, size, union, without}
 use Rattle.rules.proofs.Lists.{in-upFrom}
 use Rattle.rules.proofs.Counting.{keep-same, keep-parts}
-use Rattle.rules.proofs.SetBits.{has-and, has-later, below-most, sets-equal, full-within}
+use Rattle.rules.proofs.SetBits.{has-and, has-later, below-most, sets-equal}
 use Rattle.rules.proofs.Sets.{has-member, contains-and, apart-column, has-union, has-without, without-below}
 
 -- ---- how many of a list are kept
@@ -65,9 +65,6 @@ size-some s i l h = go (members s) (has-member s i l h)
 
 pub size-le : (n s : ℕ) → n ≤ 16 → s < 2 ^ n → size s ≤ n
 size-le n s l b = rw (size-ones s (below-most n s l b)) (ones-le n s b)
-
-pub size-full : (n : ℕ) → n ≤ 16 → size (full n) ≡ n
-size-full n l = size-ones (full n) (below-most n (full n) l (full-within n)) ∙ ones-ones n
 
 -- ---- the sizes of parts
 

@@ -74,9 +74,6 @@ pub apart-column : (s t i : ℕ) → i < 16 → apart s t ≡ true → has i t �
 unfolding apart
 apart-column s t i l a h = not-true (has i s) (every-in (λ j. not (has j s)) a (has-member t i l h))
 
-pub apart-has : (s t i : ℕ) → t < 2 ^ 16 → apart s t ≡ true → has i t ≡ true → has i s ≡ false
-apart-has s t i b a h = apart-column s t i (has-below 16 t i b h) a h
-
 pub has-apart : (s t : ℕ) → ((i : ℕ) → i < 16 → has i t ≡ true → has i s ≡ false) → apart s t ≡ true
 unfolding apart
 has-apart s t f = every-all (λ j. not (has j s)) (members t) (λ i m. ap not (f i (member-has t i m .0) (member-has t i m .1)))
@@ -119,9 +116,6 @@ apart-sym s t = same-test (apart s t) (apart t s) (turned s t) (turned t s)
 
 pub apart-part : (s t u : ℕ) → apart s t ≡ true → contains t u ≡ true → apart s u ≡ true
 apart-part s t u a c = has-apart s u (λ i l h. apart-column s t i l a (contains-column t u i l c h))
-
-pub part-apart : (s t u : ℕ) → apart s t ≡ true → contains s u ≡ true → apart u t ≡ true
-part-apart s t u a c = apart-sym u t ∙ apart-part t s u (apart-sym t s ∙ a) c
 
 -- so two sets that are apart differ, unless both are empty
 pub apart-differ : (s : ℕ) → s < 2 ^ 16 → apart s s ≡ true → s ≡ 0
@@ -180,6 +174,3 @@ without-bits s t b =
 
 pub without-le : (s t : ℕ) → s < 2 ^ 16 → without s t ≤ s
 without-le s t b = rw (without-bits s t b) (sub-le s (bitAnd s t))
-
-pub without-within : (n s t : ℕ) → n ≤ 16 → s < 2 ^ n → without s t < 2 ^ n
-without-within n s t l b = lt-of-le-of-lt (without-le s t (below-most n s l b)) b

@@ -3,7 +3,7 @@ use mathlib.Core.Path.{_≡_, refl, sym, ap}
 use mathlib.Core.Bool.{Bool, true, false, not, cond}
 use mathlib.Core.List.{List, [], _∷_, _++_, map, append-nil, append-assoc}
 use mathlib.Core.Option.{Option, none, some, Option·map, map-eq-none-iff, Option·none-ne-some}
-use Prim.Native.Nat.{ℕ, zero, suc, _+_, _^_, _≤_, _<_}
+use Prim.Native.Nat.{ℕ, zero, suc, _^_, _≤_, _<_}
 use native.Mathlib.Omega.{arith}
 use lib.Dec.{ltb}
 use lib.ListN.{length, getD, take, drop, length-map}
@@ -17,7 +17,7 @@ use Rattle.rules.specs.Names.{Spot, Names, last-name, more-names, sameNa
 use Rattle.rules.specs.Phrases.{Formula, namesIn}
 use Rattle.rules.specs.Texts.{Line, Lines, no-line, one-line, Sheet, OfForm}
 use Rattle.rules.specs.Refusals.{nameUnknown}
-use Rattle.rules.specs.Sheets.{nameAfter, lineAfter, needsOver, firstOver, columnOf, standsIn, firstNameFault}
+use Rattle.rules.specs.Sheets.{nameAfter, lineAfter, needsOver, firstOver, columnNamed, standsIn, firstNameFault}
 use Rattle.rules.specs.Sheets.{columnFault, needFault, forbidFault, linesFault, namesFault, endFault, sheetFault}
 use Rattle.rules.specs.Sheets.{columnIn, setWith, marksIn, numbersOf, jobIn}
 use Rattle.rules.proofs.Lists.{and-parts, and-both, or-none}
@@ -160,7 +160,7 @@ known sheet e =
 
 -- the column of a known name is one of the columns
 pub column-below : (columns : List Spot) (x : Spot) → standsIn columns x ≡ true → columnIn columns x < length columns
-unfolding standsIn columnIn columnOf
+unfolding standsIn columnIn columnNamed
 column-below columns x e = let r = first-below (λ c. sameName (c .name) (x .name)) columns e in rw (r .1) (r .2)
 
 -- so are the columns of known names

@@ -10,7 +10,7 @@ use lib.Dec.{ltb}
 use lib.ListN.{length, length-append}
 use borrow.Author.Tests.{ltb-true, ltb-false, lt-ltb, le-ltb}
 use Rattle.rules.specs.Signs.{lineEnd}
-use Rattle.rules.specs.Words.{bytes, digits, decimal, line}
+use Rattle.rules.specs.Words.{bytes, digits, decimal, keyedLine}
 
 -- ---- the digits of a number
 
@@ -51,6 +51,6 @@ decimal-length (suc k) n h = go (ltb n 10) refl (decimal-length k (n / 10) (omeg
 -- ---- lines
 
 -- a line is as long as its key and its value, and has its end
-pub line-length : (key : String) (value : List ℕ) → length (line key value) ≡ length (bytes key) + length value + 1
-unfolding line
-line-length key value = omega (arith, length-append (bytes key) (value ++ (lineEnd ∷ [])), length-append value (lineEnd ∷ []))
+pub keyedLine-length : (key : String) (value : List ℕ) → length (keyedLine key value) ≡ length (bytes key) + length value + 1
+unfolding keyedLine
+keyedLine-length key value = omega (arith, length-append (bytes key) (value ++ (lineEnd ∷ [])), length-append value (lineEnd ∷ []))

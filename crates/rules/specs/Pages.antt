@@ -4,7 +4,7 @@ use Prim.Native.Nat.{ℕ}
 use lib.ListN.{length, getD, replicate}
 use Rattle.rules.specs.Sets.{members}
 use Rattle.rules.specs.Signs.{comma}
-use Rattle.rules.specs.Words.{bytes, decimal, line}
+use Rattle.rules.specs.Words.{bytes, decimal, keyedLine}
 use Rattle.rules.specs.Readings.{Reading, refused as notRead, taken}
 use Rattle.rules.specs.Plannings.{Planning, refused as notPlanned, planned, planning, planRoom}
 
@@ -29,9 +29,9 @@ behindCommas [] = []
 behindCommas (name ∷ names) = comma ∷ (name ++ behindCommas names)
 
 -- names joined by commas
-unfoldable pub joined : List (List ℕ) → List ℕ
-joined [] = []
-joined (name ∷ names) = name ++ behindCommas names
+unfoldable pub joinedNames : List (List ℕ) → List ℕ
+joinedNames [] = []
+joinedNames (name ∷ names) = name ++ behindCommas names
 
 -- the names of these columns
 unfoldable pub namesAt : List (List ℕ) → List ℕ → List (List ℕ)
@@ -40,13 +40,13 @@ namesAt names columns = map (λ i. getD names i []) columns
 -- "then k lines in rising order of number, names in column order"; that the planner's split rises is a part of what it is
 unfoldable pub extractLines : List (List ℕ) → List ℕ → List ℕ
 extractLines names [] = []
-extractLines names (s ∷ split) = line "extract=" (joined (namesAt names (members s))) ++ extractLines names split
+extractLines names (s ∷ split) = keyedLine "extract=" (joinedNames (namesAt names (members s))) ++ extractLines names split
 
 -- "`extracts` is k; then k lines"; "A refusal is written as `result=refused`, `number=`, `place=`, one line each."
 unfoldable pub page : Outcome → List ℕ
-page (refused number place) = line "result=" (bytes "refused") ++ (line "number=" (decimal number) ++ line "place=" (decimal place))
+page (refused number place) = keyedLine "result=" (bytes "refused") ++ (keyedLine "number=" (decimal number) ++ keyedLine "place=" (decimal place))
 page (released names split) =
-    line "result=" (bytes "split") ++ (line "extracts=" (decimal (length split)) ++ extractLines names split)
+    keyedLine "result=" (bytes "split") ++ (keyedLine "extracts=" (decimal (length split)) ++ extractLines names split)
 
 -- as many bytes as the longest page has: eight extracts, in them sixteen columns, all with names of 12 bytes
 abbrev pub mostPageBytes : ℕ

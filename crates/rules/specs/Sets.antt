@@ -10,6 +10,10 @@ use Rattle.rules.specs.Lists.{every, keep, upFrom}
 abbrev pub mostColumns : ℕ
 mostColumns = 16
 
+-- how many sets of so many columns there are
+abbrev pub allSets : ℕ
+allSets = 2 ^ mostColumns
+
 -- column i is in the set s: bit i is set
 abbrev pub has : ℕ → ℕ → Bool
 has i s = eqb (s / 2 ^ i % 2) 1

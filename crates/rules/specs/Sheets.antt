@@ -48,8 +48,8 @@ firstOver sheet =
 -- ---- 4: "a name twice in columns=, or a known name twice in one forbid"; 5: "a name in forbid or need that isn't a column"
 
 -- the column of this name
-unfoldable pub columnOf : List Spot → List ℕ → Option ℕ
-columnOf columns name = firstWhere (λ c. sameName (c .name) name) columns
+unfoldable pub columnNamed : List Spot → List ℕ → Option ℕ
+columnNamed columns name = firstWhere (λ c. sameName (c .name) name) columns
 
 -- the name stands among these
 unfoldable pub standsIn : List Spot → Spot → Bool
@@ -98,7 +98,7 @@ sheetFault sheet = orElse (Option·map (refusal tooMany) (firstOver sheet)) (orE
 
 -- a name's column, 0 where it is unknown
 unfoldable pub columnIn : List Spot → Spot → ℕ
-columnIn columns x = Option·getD (columnOf columns (x .name)) 0
+columnIn columns x = Option·getD (columnNamed columns (x .name)) 0
 
 -- the set with the columns of these names too
 unfoldable pub setWith : List Spot → ℕ → List Spot → ℕ

@@ -22,5 +22,5 @@ unfoldable pub decimal : ℕ → List ℕ
 decimal n = digits (suc n) n
 
 -- "Lines `key=value`, each ended by one LF"
-unfoldable pub line : String → List ℕ → List ℕ
-line key value = bytes key ++ (value ++ (lineEnd ∷ []))
+unfoldable pub keyedLine : String → List ℕ → List ℕ
+keyedLine key value = bytes key ++ (value ++ (lineEnd ∷ []))

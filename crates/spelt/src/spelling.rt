@@ -5,7 +5,7 @@ use crate::repeats::repeat;
 use naming::signs::LINE_END;
 use naming::signs::byte;
 ghost use Prim.Native.Nat.{_+_, _≤_, _<_};
-ghost use lib.ListN.{length as lengthOf};
+ghost use lib.ListN.{length};
 
 // More bytes than a text may have.
 pub const ROOM: usize = 8200;
@@ -14,13 +14,13 @@ pub const ROOM: usize = 8200;
 struct Spelt {
     at: usize,
     unit: usize,
-    length: usize,
+    filled: usize,
 }
 
 // Where the name of a case ends, or the end of the cases.
 pub fn name_end(input: &[u8], from: usize) -> usize
-    requires { ⌜ from ≤ lengthOf (now input) ⌝ }
-    ensures { λ r. ⌜ (from ≤ r) × (r ≤ lengthOf (now (input .entry))) ⌝ }
+    requires { ⌜ from ≤ length (now input) ⌝ }
+    ensures { λ r. ⌜ (from ≤ r) × (r ≤ length (now (input .entry))) ⌝ }
 {
     let mut at = from;
     while at < input.len() {
@@ -34,46 +34,46 @@ pub fn name_end(input: &[u8], from: usize) -> usize
 
 // Writes the text of the case whose name ends at a place, and says how many bytes it has.
 pub fn spell(input: &[u8], named: usize, text: &mut [u8]) -> usize
-    requires { ⌜ named ≤ lengthOf (now input) ⌝ }
-    ensures { λ r. ⌜ r ≤ lengthOf (now (text .entry)) ⌝ }
+    requires { ⌜ named ≤ length (now input) ⌝ }
+    ensures { λ r. ⌜ r ≤ length (now (text .entry)) ⌝ }
 {
     let mut spelt = Spelt {
         at: named + 2,
         unit: 0,
-        length: 0,
+        filled: 0,
     };
     while spelt.at < input.len() {
         let at = spelt.at;
         if input[at] == LINE_END {
-            return spelt.length;
+            return spelt.filled;
         }
         spelt = one_more(input, spelt, text);
     }
-    spelt.length
+    spelt.filled
 }
 
 // One sign more of the spelling.
 fn one_more(input: &[u8], spelt: Spelt, text: &mut [u8]) -> Spelt
-    requires { ⌜ (spelt .at < lengthOf (now input)) × (spelt .length ≤ lengthOf (now text)) ⌝ }
-    ensures { λ r. ⌜ (spelt .at < r .at) × (r .length ≤ lengthOf (now (text .entry))) ⌝ }
+    requires { ⌜ (spelt .at < length (now input)) × (spelt .filled ≤ length (now text)) ⌝ }
+    ensures { λ r. ⌜ (spelt .at < r .at) × (r .filled ≤ length (now (text .entry))) ⌝ }
 {
     let at = spelt.at;
     let sign = input[at];
     if sign == b'\\' {
         return escaped(input, spelt, text);
     }
-    let length = put(text, spelt.length, sign);
+    let filled = put(text, spelt.filled, sign);
     Spelt {
         at: at + 1,
         unit: spelt.unit,
-        length,
+        filled,
     }
 }
 
 // What stands behind a backslash.
 fn escaped(input: &[u8], spelt: Spelt, text: &mut [u8]) -> Spelt
-    requires { ⌜ (spelt .at < lengthOf (now input)) × (spelt .length ≤ lengthOf (now text)) ⌝ }
-    ensures { λ r. ⌜ (spelt .at < r .at) × (r .length ≤ lengthOf (now (text .entry))) ⌝ }
+    requires { ⌜ (spelt .at < length (now input)) × (spelt .filled ≤ length (now text)) ⌝ }
+    ensures { λ r. ⌜ (spelt .at < r .at) × (r .filled ≤ length (now (text .entry))) ⌝ }
 {
     let at = spelt.at;
     let unit = spelt.unit;
@@ -81,30 +81,30 @@ fn escaped(input: &[u8], spelt: Spelt, text: &mut [u8]) -> Spelt
     if kind == b'{' {
         return Spelt {
             at: at + 2,
-            unit: spelt.length,
-            length: spelt.length,
+            unit: spelt.filled,
+            filled: spelt.filled,
         };
     }
     if kind == b'}' {
         let times = decimal(input, at + 2);
-        let length = repeat(text, unit, spelt.length, times.value);
+        let filled = repeat(text, unit, spelt.filled, times.value);
         return Spelt {
             at: times.to,
             unit,
-            length,
+            filled,
         };
     }
-    let length = put(text, spelt.length, coded(input, at + 1));
+    let filled = put(text, spelt.filled, coded(input, at + 1));
     Spelt {
         at: if kind == b'x' { at + 4 } else { at + 2 },
         unit,
-        length,
+        filled,
     }
 }
 
 // The byte that the signs from a place on stand for.
 fn coded(input: &[u8], at: usize) -> u8
-    requires { ⌜ at ≤ lengthOf (now input) ⌝ }
+    requires { ⌜ at ≤ length (now input) ⌝ }
 {
     let kind = byte(input, at);
     if kind == b'x' {
@@ -131,7 +131,7 @@ struct Counted {
 }
 
 fn decimal(input: &[u8], from: usize) -> Counted
-    requires { ⌜ from ≤ lengthOf (now input) + 1 ⌝ }
+    requires { ⌜ from ≤ length (now input) + 1 ⌝ }
     ensures { λ r. ⌜ from < r .to ⌝ }
 {
     let mut value: usize = 0;

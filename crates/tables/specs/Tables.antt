@@ -5,12 +5,16 @@ use mathlib.Core.List.{List}
 use Prim.Native.Nat.{ℕ, _+_, _-_, _*_, _^_, _<_}
 use lib.ListN.{getD, drop}
 use Rattle.rules.specs.Lists.{upFrom}
-use Rattle.rules.specs.Sets.{has, worth}
+use Rattle.rules.specs.Sets.{mostColumns, has, worth}
 use Rattle.needs.specs.Lanes.{Lanes}
 
 -- how many blocks the sets of n columns are: one up to six columns, and twice as many for each column more
 abbrev pub blocks : ℕ → ℕ
 blocks n = 2 ^ (n - 6)
+
+-- how many blocks the sets of all columns are
+abbrev pub allBlocks : ℕ
+allBlocks = blocks mostColumns
 
 -- the first so many words of a table say of every set of their blocks whether the test holds
 abbrev pub Tells : ℕ → (ℕ → Bool) → List ℕ → Type 0

@@ -1,6 +1,7 @@
 // Tables of a bit for each set: a word for each block of 64 sets.
+use crate::ALL_BLOCKS;
 use columns::ColumnSet;
-use job::rows::MOST_MARKS;
+use job::rows::MOST_NEED_MARKS;
 ghost use mathlib.Core.Path.{_≡_};
 ghost use mathlib.Core.Bool.{true, not};
 ghost use mathlib.Core.Option.{some};
@@ -10,7 +11,7 @@ ghost use Rattle.rules.specs.Lists.{anyOf};
 ghost use Rattle.rules.specs.Sets.{has, contains};
 ghost use Rattle.rules.specs.Needs.{Need, meets};
 ghost use Rattle.rules.specs.Marks.{needOf, beforeEnd};
-ghost use Rattle.tables.specs.Tables.{blocks, Tells, Narrows, Stays};
+ghost use Rattle.tables.specs.Tables.{blocks, allBlocks, Tells, Narrows, Stays};
 
 // How many blocks the sets of so many columns are, and never more than those of 16.
 pub fn block_count(columns: u16) -> usize
@@ -21,7 +22,7 @@ pub fn block_count(columns: u16) -> usize
     } else if columns < 16 {
         1usize << (columns - 6)
     } else {
-        1024
+        ALL_BLOCKS
     }
 }
 
@@ -39,8 +40,8 @@ pub fn hold(count: usize, table: &mut [u64])
 }
 
 // The sets that meet the need of a row are in the table.
-pub fn meet(row: &[u16; MOST_MARKS], count: usize, table: &mut [u64])
-    requires { ⌜ (count ≤ 1024) × (count ≤ length (now table)) ⌝ }
+pub fn meet(row: &[u16; MOST_NEED_MARKS], count: usize, table: &mut [u64])
+    requires { ⌜ (count ≤ allBlocks) × (count ≤ length (now table)) ⌝ }
     ensures told { λ _. ⌜ ((v : Need) → needOf (beforeEnd (now (row .entry))) ≡ some v → Tells count (meets v) (now (table .exit))) ⌝ }
     ensures stays { λ _. ⌜ Stays count (now (table .entry)) (now (table .exit)) ⌝ }
 {
@@ -68,7 +69,7 @@ fn low_lanes(set: ColumnSet) -> u64
 
 // The sets that contain the forbidden set are taken out of the table.
 fn forbid(set: ColumnSet, count: usize, table: &mut [u64])
-    requires { ⌜ (count ≤ 1024) × (count ≤ length (now table)) ⌝ }
+    requires { ⌜ (count ≤ allBlocks) × (count ≤ length (now table)) ⌝ }
     ensures told { λ _. ⌜ Narrows count (λ s. not (contains s (set .bits))) (now (table .entry)) (now (table .exit)) ⌝ }
     ensures stays { λ _. ⌜ Stays count (now (table .entry)) (now (table .exit)) ⌝ }
 {
@@ -87,7 +88,7 @@ fn forbid(set: ColumnSet, count: usize, table: &mut [u64])
 
 // The sets that contain a forbidden set are taken out of the table.
 pub fn forbid_all(forbidden: &[u16], count: usize, table: &mut [u64])
-    requires { ⌜ (count ≤ 1024) × (count ≤ length (now table)) ⌝ }
+    requires { ⌜ (count ≤ allBlocks) × (count ≤ length (now table)) ⌝ }
     ensures told { λ _. ⌜ Narrows count (λ s. not (anyOf (contains s) (now (forbidden .entry)))) (now (table .entry)) (now (table .exit)) ⌝ }
     ensures stays { λ _. ⌜ Stays count (now (table .entry)) (now (table .exit)) ⌝ }
 {

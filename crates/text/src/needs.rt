@@ -4,7 +4,6 @@ use faults::sections::key_stands;
 use faults::sections::width;
 use job::rows::END_MARK;
 use phrases::or_list;
-ghost use mathlib.Core.Path.{_≡_};
 ghost use mathlib.Core.List.{List};
 ghost use Prim.Native.Nat.{ℕ};
 ghost use lib.ListN.{length};

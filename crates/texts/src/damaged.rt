@@ -10,7 +10,7 @@ use text::JobRead;
 use worked::print;
 use worked::random::next;
 ghost use Prim.Native.Nat.{_≤_};
-ghost use lib.ListN.{length as lengthOf};
+ghost use lib.ListN.{length};
 
 // How many damaged texts are made of each text.
 const EACH: usize = 60;
@@ -56,8 +56,8 @@ pub fn more(sums: Sums, text: &[u8]) -> Sums {
 fn one_more(sums: Sums, text: &[u8]) -> Sums {
     let drawn = next(sums.state);
     let mut other = [0u8; ROOM];
-    let length = damage(text, drawn, &mut other);
-    with_answer(sums, drawn, text::read(&other[..length]))
+    let end = damage(text, drawn, &mut other);
+    with_answer(sums, drawn, text::read(&other[..end]))
 }
 
 fn with_answer(sums: Sums, drawn: u64, read: JobRead) -> Sums {
@@ -80,7 +80,7 @@ fn sign(drawn: u64) -> u8 {
 
 // A place of a text, or its end.
 fn place_of(text: &[u8], drawn: u64) -> usize
-    ensures { λ r. ⌜ r ≤ lengthOf (now (text .entry)) ⌝ }
+    ensures { λ r. ⌜ r ≤ length (now (text .entry)) ⌝ }
 {
     (drawn % (text.len() as u64 + 1)) as usize
 }
@@ -107,7 +107,7 @@ fn new_sign(old: u8, kind: u64, drawn: u64) -> u8 {
 
 // Writes a text with one byte left out, put in, or changed to any or to one of its sort, and says how many bytes it has.
 fn damage(text: &[u8], drawn: u64, other: &mut [u8]) -> usize
-    ensures { λ r. ⌜ r ≤ lengthOf (now (other .entry)) ⌝ }
+    ensures { λ r. ⌜ r ≤ length (now (other .entry)) ⌝ }
 {
     let place = place_of(text, drawn);
     let kind = drawn / 1048576 % 4;
@@ -116,23 +116,23 @@ fn damage(text: &[u8], drawn: u64, other: &mut [u8]) -> usize
         return copied(text, place + 1, text.len(), other, before);
     }
     let new = new_sign(byte(text, place), kind, drawn / 16777216);
-    let length = put(other, before, new);
+    let end = put(other, before, new);
     if kind == 1 {
-        return copied(text, place, text.len(), other, length);
+        return copied(text, place, text.len(), other, end);
     }
-    copied(text, place + 1, text.len(), other, length)
+    copied(text, place + 1, text.len(), other, end)
 }
 
 // The bytes of a text from one place to another put behind those that stand, as far as there is room.
 fn copied(text: &[u8], from: usize, to: usize, other: &mut [u8], before: usize) -> usize
-    requires { ⌜ (to ≤ lengthOf (now text)) × (before ≤ lengthOf (now other)) ⌝ }
-    ensures { λ r. ⌜ r ≤ lengthOf (now (other .entry)) ⌝ }
+    requires { ⌜ (to ≤ length (now text)) × (before ≤ length (now other)) ⌝ }
+    ensures { λ r. ⌜ r ≤ length (now (other .entry)) ⌝ }
 {
-    let mut length = before;
+    let mut end = before;
     let mut i = from;
     while i < to {
-        length = put(other, length, text[i]);
+        end = put(other, end, text[i]);
         i += 1;
     }
-    length
+    end
 }

@@ -98,25 +98,20 @@ all-unlinked : (b : lts.After-enum-told3 claims reads.Pre reads.Post) → let e 
     firstSharing (known e .job) (judgedOn (e .before .before)) ≡ none
 all-unlinked b = sharing-told (b .before .before) ∙ ap placesOf (b .enum-told3 .given .1)
 
--- src/lib.rt:28:9
 load-requires : tie.Need-load-requires
 load-requires c κs = search needs
 
--- src/lib.rt:30:9
 returns : tie.Need-returns
 returns c =
     let l = c .before .before in
     sym (not-loaded (given l) (judgedOn l) (l .load .result) (l .load .ensures) (not-true _ (c .if1 .taken)))
 
--- src/lib.rt:33:9
 first-unfit-set-requires : tie.Need-first-unfit-set-requires
 first-unfit-set-requires c κs = search needs
 
--- src/lib.rt:34:22
 enum-known-improper : tie.Need-enum-known-improper
 enum-known-improper c = search needs
 
--- src/lib.rt:35:9
 returns-2 : tie.Need-returns-2
 returns-2 c =
     let b = c .before .before .before in
@@ -127,15 +122,12 @@ returns-2 c =
 enum-told : tie.Need-enum-told
 enum-told c = search needs
 
--- src/lib.rt:37:9
 first-forbidden-requires : tie.Need-first-forbidden-requires
 first-forbidden-requires c κs = search needs
 
--- src/lib.rt:38:21
 enum-known-contained : tie.Need-enum-known-contained
 enum-known-contained c = search needs
 
--- src/lib.rt:39:9
 returns-3 : tie.Need-returns-3
 returns-3 c =
     let b = c .before .before .before in
@@ -147,15 +139,12 @@ returns-3 c =
 enum-told-2 : tie.Need-enum-told-2
 enum-told-2 c = search needs
 
--- src/lib.rt:41:9
 first-sharing-requires : tie.Need-first-sharing-requires
 first-sharing-requires c κs = search needs
 
--- src/lib.rt:42:21
 enum-known-shared : tie.Need-enum-known-shared
 enum-known-shared c = search needs
 
--- src/lib.rt:43:9
 returns-4 : tie.Need-returns-4
 returns-4 c =
     let b = c .before .before .before in
@@ -168,19 +157,15 @@ returns-4 c =
 enum-told-3 : tie.Need-enum-told-3
 enum-told-3 c = search needs
 
--- src/lib.rt:45:36
 rows-of-requires : tie.Need-rows-of-requires
 rows-of-requires c κs = search needs
 
--- src/lib.rt:45:9
 first-unmet-requires : tie.Need-first-unmet-requires
 first-unmet-requires c κs = known (back3 (c .before .before .before)) .few
 
--- src/lib.rt:46:22
 enum-known-unmet : tie.Need-enum-known-unmet
 enum-known-unmet c = search needs
 
--- src/lib.rt:47:9
 returns-5 : tie.Need-returns-5
 returns-5 c =
     let b = c .before .before .before in
@@ -196,7 +181,6 @@ returns-5 c =
 enum-told-4 : tie.Need-enum-told-4
 enum-told-4 c = search needs
 
--- src/lib.rt:25:1
 returns-6 : tie.Need-returns-6
 returns-6 c =
     let b = c .before .before in

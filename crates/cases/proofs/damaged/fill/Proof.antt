@@ -6,9 +6,6 @@ use lib.ListN.{length, length-set}
 use borrow.Author.Needs.{needs}
 use Rattle.cases.proofs.damaged.fill.Statement.{statement}
 use Rattle.cases.proofs.damaged.fill.Tie as tie
-use Rattle.cases.proofs.damaged.fill.Reads as reads
-use Rattle.cases.proofs.damaged.fill.Lts as lts
-use Rattle.worked.proofs.random.next.Reads as next-reads
 
 abbrev Inv-loop : tie.InvT-loop
 Inv-loop numbers₀ bound state now₀ i₀ numbers now i = (i ≤ length numbers) × (length numbers ≡ length numbers₀)
@@ -16,47 +13,36 @@ Inv-loop numbers₀ bound state now₀ i₀ numbers now i = (i ≤ length number
 abbrev μ-loop : tie.MeasureT-loop
 μ-loop numbers₀ bound state now₀ i₀ numbers now i = length numbers - i
 
--- src/damaged.rt:28:5
 loop-holds : tie.Need-loop-holds Inv-loop μ-loop
 loop-holds c = search needs
 
--- src/damaged.rt:29:9
 next-requires : tie.Need-next-requires Inv-loop μ-loop
 next-requires c κs = search needs
 
--- src/damaged.rt:30:22
 cast-numbers : tie.Need-cast-numbers Inv-loop μ-loop
 cast-numbers c = search needs
 
--- src/damaged.rt:30:22
 rem-numbers : tie.Need-rem-numbers Inv-loop μ-loop
 rem-numbers c = search needs
 
--- src/damaged.rt:30:9
 mul-numbers : tie.Need-mul-numbers Inv-loop μ-loop
 mul-numbers c = search needs
 
--- src/damaged.rt:30:9
 slice-write-numbers : tie.Need-slice-write-numbers Inv-loop μ-loop
 slice-write-numbers c = search needs
 
--- src/damaged.rt:31:9
 add-i : tie.Need-add-i Inv-loop μ-loop
 add-i c = search needs
 
--- src/damaged.rt:28:5
 loop-less : tie.Need-loop-less Inv-loop μ-loop
 loop-less c = simp length-set (omega arith)
 
--- src/damaged.rt:28:5
 loop-again : tie.Need-loop-again Inv-loop μ-loop
 loop-again c = (simp length-set (omega arith), simp length-set (omega arith))
 
--- src/damaged.rt:23:1
 same-length : tie.Need-same-length Inv-loop μ-loop
 same-length c = search needs
 
--- src/damaged.rt:23:1
 returns : tie.Need-returns Inv-loop μ-loop
 returns c = search needs
 

@@ -5,90 +5,64 @@ use lib.Seq.{length-take-le}
 use borrow.Author.Needs.{needs}
 use Rattle.cases.proofs.damaged.nearly_fit.Statement.{statement}
 use Rattle.cases.proofs.damaged.nearly_fit.Tie as tie
-use Rattle.cases.proofs.damaged.nearly_fit.Reads as reads
-use Rattle.cases.proofs.damaged.nearly_fit.Lts as lts
-use Rattle.cases.proofs.damaged.damage.Reads as damage-reads
-use Rattle.cases.proofs.damaged.fill.Reads as fill-reads
-use Rattle.cases.proofs.damaged.shape.Reads as shape-reads
-use Rattle.judge.proofs.judge.Reads as judge-reads
 
--- src/damaged.rt:89:18
 slice-aggregate-fill : tie.Need-slice-aggregate-fill
 slice-aggregate-fill c = search needs
 
--- src/damaged.rt:89:9
 fill-requires : tie.Need-fill-requires
 fill-requires c κs = search needs
 
--- src/damaged.rt:90:18
 slice-aggregate-fill-2 : tie.Need-slice-aggregate-fill-2
 slice-aggregate-fill-2 c = search needs
 
--- src/damaged.rt:90:9
 fill-requires-2 : tie.Need-fill-requires-2
 fill-requires-2 c κs = search needs
 
--- src/damaged.rt:91:18
 slice-aggregate-fill-3 : tie.Need-slice-aggregate-fill-3
 slice-aggregate-fill-3 c = search needs
 
--- src/damaged.rt:91:9
 fill-requires-3 : tie.Need-fill-requires-3
 fill-requires-3 c κs = search needs
 
--- src/damaged.rt:92:11
 slice-aggregate-shape : tie.Need-slice-aggregate-shape
 slice-aggregate-shape c = search needs
 
--- src/damaged.rt:92:5
 shape-requires : tie.Need-shape-requires
 shape-requires c κs = search needs
 
--- src/damaged.rt:96:12
 slice-aggregate-damage : tie.Need-slice-aggregate-damage
 slice-aggregate-damage c = search needs
 
--- src/damaged.rt:96:52
 cast-damage : tie.Need-cast-damage
 cast-damage c = search needs
 
--- src/damaged.rt:96:5
 damage-requires : tie.Need-damage-requires
 damage-requires c κs = search needs
 
--- src/damaged.rt:101:13
 array-share-prefix-forbidden : tie.Need-array-share-prefix-forbidden
 array-share-prefix-forbidden c = search needs
 
--- src/damaged.rt:101:13
 slice-aggregate-judge : tie.Need-slice-aggregate-judge
 slice-aggregate-judge c = sym (length-take-le _ _ (omega arith))
 
--- src/damaged.rt:102:22
 mul-marks : tie.Need-mul-marks
 mul-marks c = search needs
 
--- src/damaged.rt:102:13
 array-share-prefix-marks : tie.Need-array-share-prefix-marks
 array-share-prefix-marks c = search needs
 
--- src/damaged.rt:102:13
 slice-aggregate-judge-2 : tie.Need-slice-aggregate-judge-2
 slice-aggregate-judge-2 c = sym (length-take-le _ _ (omega arith))
 
--- src/damaged.rt:103:13
 array-share-prefix-split : tie.Need-array-share-prefix-split
 array-share-prefix-split c = search needs
 
--- src/damaged.rt:103:13
 slice-aggregate-judge-3 : tie.Need-slice-aggregate-judge-3
 slice-aggregate-judge-3 c = sym (length-take-le _ _ (omega arith))
 
--- src/damaged.rt:99:17
 judge-requires : tie.Need-judge-requires
 judge-requires c κs = search needs
 
--- src/damaged.rt:85:1
 returns : tie.Need-returns
 returns c = search needs
 

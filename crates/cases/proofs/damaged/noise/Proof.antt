@@ -5,64 +5,46 @@ use lib.Seq.{length-take-le}
 use borrow.Author.Needs.{needs}
 use Rattle.cases.proofs.damaged.noise.Statement.{statement}
 use Rattle.cases.proofs.damaged.noise.Tie as tie
-use Rattle.cases.proofs.damaged.noise.Reads as reads
-use Rattle.cases.proofs.damaged.noise.Lts as lts
-use Rattle.cases.proofs.damaged.fill.Reads as fill-reads
-use Rattle.judge.proofs.judge.Reads as judge-reads
 
--- src/damaged.rt:67:18
 slice-aggregate-fill : tie.Need-slice-aggregate-fill
 slice-aggregate-fill c = search needs
 
--- src/damaged.rt:67:9
 fill-requires : tie.Need-fill-requires
 fill-requires c κs = search needs
 
--- src/damaged.rt:68:18
 slice-aggregate-fill-2 : tie.Need-slice-aggregate-fill-2
 slice-aggregate-fill-2 c = search needs
 
--- src/damaged.rt:68:9
 fill-requires-2 : tie.Need-fill-requires-2
 fill-requires-2 c κs = search needs
 
--- src/damaged.rt:69:18
 slice-aggregate-fill-3 : tie.Need-slice-aggregate-fill-3
 slice-aggregate-fill-3 c = search needs
 
--- src/damaged.rt:69:9
 fill-requires-3 : tie.Need-fill-requires-3
 fill-requires-3 c κs = search needs
 
--- src/damaged.rt:77:13
 array-share-prefix-forbidden : tie.Need-array-share-prefix-forbidden
 array-share-prefix-forbidden c = search needs
 
--- src/damaged.rt:77:13
 slice-aggregate-judge : tie.Need-slice-aggregate-judge
 slice-aggregate-judge c = sym (length-take-le _ _ (omega arith))
 
--- src/damaged.rt:78:13
 array-share-prefix-marks : tie.Need-array-share-prefix-marks
 array-share-prefix-marks c = search needs
 
--- src/damaged.rt:78:13
 slice-aggregate-judge-2 : tie.Need-slice-aggregate-judge-2
 slice-aggregate-judge-2 c = sym (length-take-le _ _ (omega arith))
 
--- src/damaged.rt:79:13
 array-share-prefix-split : tie.Need-array-share-prefix-split
 array-share-prefix-split c = search needs
 
--- src/damaged.rt:79:13
 slice-aggregate-judge-3 : tie.Need-slice-aggregate-judge-3
 slice-aggregate-judge-3 c = sym (length-take-le _ _ (omega arith))
 
--- src/damaged.rt:75:17
 judge-requires : tie.Need-judge-requires
 judge-requires c κs = search needs
 
--- src/damaged.rt:63:1
 returns : tie.Need-returns
 returns c = search needs
 

@@ -6,9 +6,6 @@ use lib.ListN.{length, length-set}
 use borrow.Author.Needs.{needs}
 use Rattle.cases.proofs.damaged.shape.Statement.{statement}
 use Rattle.cases.proofs.damaged.shape.Tie as tie
-use Rattle.cases.proofs.damaged.shape.Reads as reads
-use Rattle.cases.proofs.damaged.shape.Lts as lts
-use Rattle.cases.proofs.damaged.shaped.Reads as shaped-reads
 
 abbrev Inv-loop : tie.InvT-loop
 Inv-loop marks₀ i₀ marks i = (i ≤ length marks) × (length marks ≡ length marks₀)
@@ -16,47 +13,36 @@ Inv-loop marks₀ i₀ marks i = (i ≤ length marks) × (length marks ≡ lengt
 abbrev μ-loop : tie.MeasureT-loop
 μ-loop marks₀ i₀ marks i = length marks - i
 
--- src/damaged.rt:49:5
 loop-holds : tie.Need-loop-holds Inv-loop μ-loop
 loop-holds c = search needs
 
--- src/damaged.rt:50:30
 mul-shaped : tie.Need-mul-shaped Inv-loop μ-loop
 mul-shaped c = search needs
 
--- src/damaged.rt:50:30
 slice-read-shaped : tie.Need-slice-read-shaped Inv-loop μ-loop
 slice-read-shaped c = search needs
 
--- src/damaged.rt:50:20
 shaped-requires : tie.Need-shaped-requires Inv-loop μ-loop
 shaped-requires c κs = search needs
 
--- src/damaged.rt:50:9
 mul-marks : tie.Need-mul-marks Inv-loop μ-loop
 mul-marks c = search needs
 
--- src/damaged.rt:50:9
 slice-write-marks : tie.Need-slice-write-marks Inv-loop μ-loop
 slice-write-marks c = search needs
 
--- src/damaged.rt:51:9
 add-i : tie.Need-add-i Inv-loop μ-loop
 add-i c = search needs
 
--- src/damaged.rt:49:5
 loop-less : tie.Need-loop-less Inv-loop μ-loop
 loop-less c = simp length-set (omega arith)
 
--- src/damaged.rt:49:5
 loop-again : tie.Need-loop-again Inv-loop μ-loop
 loop-again c = (simp length-set (omega arith), simp length-set (omega arith))
 
--- src/damaged.rt:47:1
 same-length : tie.Need-same-length Inv-loop μ-loop
 same-length c = search needs
 
--- src/damaged.rt:47:1
 returns : tie.Need-returns Inv-loop μ-loop
 returns c = search needs
 

@@ -6,8 +6,6 @@ use lib.ListN.{length, length-set}
 use borrow.Author.Needs.{needs}
 use Rattle.cases.proofs.fitness.every_other.Statement.{statement}
 use Rattle.cases.proofs.fitness.every_other.Tie as tie
-use Rattle.cases.proofs.fitness.every_other.Reads as reads
-use Rattle.cases.proofs.fitness.every_other.Lts as lts
 
 abbrev Inv-loop : tie.InvT-loop
 Inv-loop marks₀ from mark i₀ marks i = length marks ≡ length marks₀
@@ -15,35 +13,27 @@ Inv-loop marks₀ from mark i₀ marks i = length marks ≡ length marks₀
 abbrev μ-loop : tie.MeasureT-loop
 μ-loop marks₀ from mark i₀ marks i = length marks - i
 
--- src/fitness.rt:94:5
 loop-holds : tie.Need-loop-holds Inv-loop μ-loop
 loop-holds c = search needs
 
--- src/fitness.rt:95:9
 mul-marks : tie.Need-mul-marks Inv-loop μ-loop
 mul-marks c = search needs
 
--- src/fitness.rt:95:9
 slice-write-marks : tie.Need-slice-write-marks Inv-loop μ-loop
 slice-write-marks c = search needs
 
--- src/fitness.rt:96:9
 add-i : tie.Need-add-i Inv-loop μ-loop
 add-i c = search needs
 
--- src/fitness.rt:94:5
 loop-less : tie.Need-loop-less Inv-loop μ-loop
 loop-less c = simp length-set (omega arith)
 
--- src/fitness.rt:94:5
 loop-again : tie.Need-loop-again Inv-loop μ-loop
 loop-again c = simp length-set (omega arith)
 
--- src/fitness.rt:92:1
 same-length : tie.Need-same-length Inv-loop μ-loop
 same-length c = search needs
 
--- src/fitness.rt:92:1
 returns : tie.Need-returns Inv-loop μ-loop
 returns c = search needs
 

@@ -6,35 +6,27 @@ use borrow.Author.Needs.{needs}
 use Rattle.drawings.proofs.drawing.draw.Statement.{statement}
 use Rattle.drawings.proofs.drawing.draw.Tie as tie
 
--- src/drawing.rt:110:9
 array-borrow-prefix-column : tie.Need-array-borrow-prefix-column
 array-borrow-prefix-column c = search needs
 
--- src/drawing.rt:110:9
 slice-aggregate-draw-into : tie.Need-slice-aggregate-draw-into
 slice-aggregate-draw-into c = sym (length-take-le _ _ (omega arith))
 
--- src/drawing.rt:111:9
 array-borrow-prefix-low : tie.Need-array-borrow-prefix-low
 array-borrow-prefix-low c = search needs
 
--- src/drawing.rt:111:9
 slice-aggregate-draw-into-2 : tie.Need-slice-aggregate-draw-into-2
 slice-aggregate-draw-into-2 c = sym (length-take-le _ _ (omega arith))
 
--- src/drawing.rt:112:9
 array-borrow-prefix-high : tie.Need-array-borrow-prefix-high
 array-borrow-prefix-high c = search needs
 
--- src/drawing.rt:112:9
 slice-aggregate-draw-into-3 : tie.Need-slice-aggregate-draw-into-3
 slice-aggregate-draw-into-3 c = sym (length-take-le _ _ (omega arith))
 
--- src/drawing.rt:104:5
 draw-into-requires : tie.Need-draw-into-requires
 draw-into-requires c κs = search needs
 
--- src/drawing.rt:89:1
 returns : tie.Need-returns
 returns c = search needs
 

@@ -11,39 +11,30 @@ Inv-loop numbers count₀ i₀ count i = i ≤ length numbers
 abbrev μ-loop : tie.MeasureT-loop
 μ-loop numbers count₀ i₀ count i = length numbers - i
 
--- src/lent.rt:32:5
 loop-holds : tie.Need-loop-holds Inv-loop μ-loop
 loop-holds c = search needs
 
--- src/lent.rt:33:57
 mul-one-if-before : tie.Need-mul-one-if-before Inv-loop μ-loop
 mul-one-if-before c = search needs
 
--- src/lent.rt:33:57
 shared-slice-read-one-if-before : tie.Need-shared-slice-read-one-if-before Inv-loop μ-loop
 shared-slice-read-one-if-before c = search needs
 
--- src/lent.rt:33:43
 one-if-before-requires : tie.Need-one-if-before-requires Inv-loop μ-loop
 one-if-before-requires c κs = search needs
 
--- src/lent.rt:33:9
 wrapping-add-usize-requires : tie.Need-wrapping-add-usize-requires Inv-loop μ-loop
 wrapping-add-usize-requires c κs = search needs
 
--- src/lent.rt:34:9
 add-i : tie.Need-add-i Inv-loop μ-loop
 add-i c = search needs
 
--- src/lent.rt:32:5
 loop-less : tie.Need-loop-less Inv-loop μ-loop
 loop-less c = search needs
 
--- src/lent.rt:32:5
 loop-again : tie.Need-loop-again Inv-loop μ-loop
 loop-again c = search needs
 
--- src/lent.rt:29:1
 returns : tie.Need-returns Inv-loop μ-loop
 returns c = search needs
 

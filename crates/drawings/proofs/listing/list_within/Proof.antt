@@ -6,51 +6,39 @@ use borrow.Author.Needs.{needs}
 use Rattle.drawings.proofs.listing.list_within.Statement.{statement}
 use Rattle.drawings.proofs.listing.list_within.Tie as tie
 
--- src/listing.rt:136:9
 array-borrow-prefix-column : tie.Need-array-borrow-prefix-column
 array-borrow-prefix-column c = search needs
 
--- src/listing.rt:136:9
 slice-aggregate-list-into : tie.Need-slice-aggregate-list-into
 slice-aggregate-list-into c = sym (length-take-le _ _ (omega arith))
 
--- src/listing.rt:137:9
 array-borrow-prefix-low : tie.Need-array-borrow-prefix-low
 array-borrow-prefix-low c = search needs
 
--- src/listing.rt:137:9
 slice-aggregate-list-into-2 : tie.Need-slice-aggregate-list-into-2
 slice-aggregate-list-into-2 c = sym (length-take-le _ _ (omega arith))
 
--- src/listing.rt:138:9
 array-borrow-prefix-high : tie.Need-array-borrow-prefix-high
 array-borrow-prefix-high c = search needs
 
--- src/listing.rt:138:9
 slice-aggregate-list-into-3 : tie.Need-slice-aggregate-list-into-3
 slice-aggregate-list-into-3 c = sym (length-take-le _ _ (omega arith))
 
--- src/listing.rt:139:9
 array-borrow-prefix-ones : tie.Need-array-borrow-prefix-ones
 array-borrow-prefix-ones c = search needs
 
--- src/listing.rt:139:9
 slice-aggregate-list-into-4 : tie.Need-slice-aggregate-list-into-4
 slice-aggregate-list-into-4 c = sym (length-take-le _ _ (omega arith))
 
--- src/listing.rt:140:9
 array-borrow-prefix-zeros : tie.Need-array-borrow-prefix-zeros
 array-borrow-prefix-zeros c = search needs
 
--- src/listing.rt:140:9
 slice-aggregate-list-into-5 : tie.Need-slice-aggregate-list-into-5
 slice-aggregate-list-into-5 c = sym (length-take-le _ _ (omega arith))
 
--- src/listing.rt:130:5
 list-into-requires : tie.Need-list-into-requires
 list-into-requires c κs = search needs
 
--- src/listing.rt:111:1
 returns : tie.Need-returns
 returns c = search needs
 

@@ -10,27 +10,21 @@ Inv-loop turns sums₀ i₀ sums i = i ≤ turns
 abbrev μ-loop : tie.MeasureT-loop
 μ-loop turns sums₀ i₀ sums i = turns - i
 
--- src/sampled.rt:41:5
 loop-holds : tie.Need-loop-holds Inv-loop μ-loop
 loop-holds c = search needs
 
--- src/sampled.rt:42:9
 one-more-requires : tie.Need-one-more-requires Inv-loop μ-loop
 one-more-requires c κs = search needs
 
--- src/sampled.rt:43:9
 add-i : tie.Need-add-i Inv-loop μ-loop
 add-i c = search needs
 
--- src/sampled.rt:41:5
 loop-less : tie.Need-loop-less Inv-loop μ-loop
 loop-less c = search needs
 
--- src/sampled.rt:41:5
 loop-again : tie.Need-loop-again Inv-loop μ-loop
 loop-again c = search needs
 
--- src/sampled.rt:31:1
 returns : tie.Need-returns Inv-loop μ-loop
 returns c = search needs
 

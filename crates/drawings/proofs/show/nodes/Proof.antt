@@ -10,83 +10,63 @@ Inv-loop column low high shown i₀ t6 t7 i = i ≤ shown
 abbrev μ-loop : tie.MeasureT-loop
 μ-loop column low high shown i₀ t6 t7 i = shown - i
 
--- src/show.rt:14:9
 shown-requires : tie.Need-shown-requires Inv-loop μ-loop
 shown-requires c κs = search needs
 
--- src/show.rt:16:5
 loop-holds : tie.Need-loop-holds Inv-loop μ-loop
 loop-holds c = search needs
 
--- src/show.rt:17:15
 slice-aggregate-named : tie.Need-slice-aggregate-named Inv-loop μ-loop
 slice-aggregate-named c = search needs
 
--- src/show.rt:17:26
 at-requires : tie.Need-at-requires Inv-loop μ-loop
 at-requires c κs = search needs
 
--- src/show.rt:17:9
 named-requires : tie.Need-named-requires Inv-loop μ-loop
 named-requires c κs = search needs
 
--- src/show.rt:18:16
 at-requires-2 : tie.Need-at-requires-2 Inv-loop μ-loop
 at-requires-2 c κs = search needs
 
--- src/show.rt:18:9
 number-requires : tie.Need-number-requires Inv-loop μ-loop
 number-requires c κs = search needs
 
--- src/show.rt:19:16
 at-requires-3 : tie.Need-at-requires-3 Inv-loop μ-loop
 at-requires-3 c κs = search needs
 
--- src/show.rt:19:9
 number-requires-2 : tie.Need-number-requires-2 Inv-loop μ-loop
 number-requires-2 c κs = search needs
 
--- src/show.rt:20:9
 add-i : tie.Need-add-i Inv-loop μ-loop
 add-i c = search needs
 
--- src/show.rt:16:5
 loop-less : tie.Need-loop-less Inv-loop μ-loop
 loop-less c = search needs
 
--- src/show.rt:16:5
 loop-again : tie.Need-loop-again Inv-loop μ-loop
 loop-again c = search needs
 
--- src/show.rt:22:11
 slice-aggregate-named-2 : tie.Need-slice-aggregate-named-2 Inv-loop μ-loop
 slice-aggregate-named-2 c = search needs
 
--- src/show.rt:22:27
 untouched-requires : tie.Need-untouched-requires Inv-loop μ-loop
 untouched-requires c κs = search needs
 
--- src/show.rt:22:5
 named-requires-2 : tie.Need-named-requires-2 Inv-loop μ-loop
 named-requires-2 c κs = search needs
 
--- src/show.rt:23:12
 untouched-requires-2 : tie.Need-untouched-requires-2 Inv-loop μ-loop
 untouched-requires-2 c κs = search needs
 
--- src/show.rt:23:5
 number-requires-3 : tie.Need-number-requires-3 Inv-loop μ-loop
 number-requires-3 c κs = search needs
 
--- src/show.rt:24:12
 untouched-requires-3 : tie.Need-untouched-requires-3 Inv-loop μ-loop
 untouched-requires-3 c κs = search needs
 
--- src/show.rt:24:5
 number-requires-4 : tie.Need-number-requires-4 Inv-loop μ-loop
 number-requires-4 c κs = search needs
 
--- src/show.rt:13:1
 returns : tie.Need-returns Inv-loop μ-loop
 returns c = search needs
 

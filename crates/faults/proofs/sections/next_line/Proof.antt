@@ -9,15 +9,12 @@ use borrow.Author.Needs.{needs}
 use Rattle.faults.proofs.sections.next_line.Statement.{statement}
 use Rattle.faults.proofs.sections.next_line.Tie as tie
 
--- src/sections.rt:48:22
 width-requires : tie.Need-width-requires
 width-requires c κs = search needs
 
--- src/sections.rt:48:17
 add-value : tie.Need-add-value
 add-value c = let s = c .before .before in omega (arith, c .width .ensures, width-bounds (s .args .section), s .pre)
 
--- src/sections.rt:50:9
 returns : tie.Need-returns
 returns c =
     let s = c .before .before .before in
@@ -25,15 +22,12 @@ returns c =
     let bounds = width-bounds (s .args .section) in
     (omega arith, λ q names w. absurd (omega (arith, words-inside w, c .if1 .taken)))
 
--- src/sections.rt:52:5
 line-end-requires : tie.Need-line-end-requires
 line-end-requires c κs = search needs
 
--- src/sections.rt:52:5
 add-result : tie.Need-add-result
 add-result c = let s = c .before .before .before .before in omega (arith, c .line-end .ensures .inside (c .before .if1 .left))
 
--- src/sections.rt:43:1
 returns-2 : tie.Need-returns-2
 returns-2 c =
     let s = c .before .before .before .before in

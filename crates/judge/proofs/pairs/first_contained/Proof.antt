@@ -9,9 +9,6 @@ use Rattle.rules.proofs.Searches.{NoneBefore, first-found, nothing-found}
 use borrow.Author.Needs.{needs}
 use Rattle.judge.proofs.pairs.first_contained.Statement.{statement}
 use Rattle.judge.proofs.pairs.first_contained.Tie as tie
-use Rattle.judge.proofs.pairs.first_contained.Reads as reads
-use Rattle.judge.proofs.pairs.first_contained.Lts as lts
-use Rattle.columns.proofs.ColumnSet.contains.Reads as contains-reads
 
 abbrev Inv-loop : tie.InvT-loop
 Inv-loop extract forbidden j₀ j = (j ≤ length forbidden) × NoneBefore (contains (extract .bits)) 0 forbidden j
@@ -19,44 +16,35 @@ Inv-loop extract forbidden j₀ j = (j ≤ length forbidden) × NoneBefore (cont
 abbrev μ-loop : tie.MeasureT-loop
 μ-loop extract forbidden j₀ j = length forbidden - j
 
--- src/pairs.rt:24:5
 loop-holds : tie.Need-loop-holds Inv-loop μ-loop
 loop-holds c = (search needs, λ k h. absurd (omega arith))
 
--- src/pairs.rt:25:47
 mul-t4 : tie.Need-mul-t4 Inv-loop μ-loop
 mul-t4 c = search needs
 
--- src/pairs.rt:25:47
 shared-slice-read-t8 : tie.Need-shared-slice-read-t8 Inv-loop μ-loop
 shared-slice-read-t8 c = search needs
 
--- src/pairs.rt:25:12
 contains-requires : tie.Need-contains-requires Inv-loop μ-loop
 contains-requires c κs = search needs
 
--- src/pairs.rt:26:13
 returns : tie.Need-returns Inv-loop μ-loop
 returns c =
     let l = c .before .before .before .before .loop in
     let a = c .before .before .before .before .before .before .args in
     sym (first-found (contains (a .extract .bits)) 0 (a .forbidden .now) (l .j) (omega arith) (l .inv .1) (sym (c .before .contains .ensures) ∙ c .if1 .taken))
 
--- src/pairs.rt:28:9
 add-j : tie.Need-add-j Inv-loop μ-loop
 add-j c = search needs
 
--- src/pairs.rt:24:5
 loop-less : tie.Need-loop-less Inv-loop μ-loop
 loop-less c = search needs
 
--- src/pairs.rt:24:5
 loop-again : tie.Need-loop-again Inv-loop μ-loop
 loop-again c =
     let l = c .before .before .before .before .loop in
     (omega arith, below-more _ (l .j) (l .inv .1) (sym (c .before .contains .ensures) ∙ c .if1 .left))
 
--- src/pairs.rt:20:1
 returns-2 : tie.Need-returns-2 Inv-loop μ-loop
 returns-2 c =
     let l = c .before .loop in

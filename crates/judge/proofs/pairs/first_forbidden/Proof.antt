@@ -9,9 +9,6 @@ use Rattle.rules.proofs.FirstFaults.{SafeBefore, forbidden-found, forbidden-not
 use borrow.Author.Needs.{needs}
 use Rattle.judge.proofs.pairs.first_forbidden.Statement.{statement}
 use Rattle.judge.proofs.pairs.first_forbidden.Tie as tie
-use Rattle.judge.proofs.pairs.first_forbidden.Reads as reads
-use Rattle.judge.proofs.pairs.first_forbidden.Lts as lts
-use Rattle.judge.proofs.pairs.first_contained.Reads as first-contained-reads
 
 abbrev Inv-loop : tie.InvT-loop
 Inv-loop forbidden split i₀ i = (i ≤ length split) × SafeBefore forbidden split i
@@ -19,27 +16,21 @@ Inv-loop forbidden split i₀ i = (i ≤ length split) × SafeBefore forbidden s
 abbrev μ-loop : tie.MeasureT-loop
 μ-loop forbidden split i₀ i = length split - i
 
--- src/pairs.rt:38:5
 loop-holds : tie.Need-loop-holds Inv-loop μ-loop
 loop-holds c = (search needs, λ k h. absurd (omega arith))
 
--- src/pairs.rt:39:59
 mul-t6 : tie.Need-mul-t6 Inv-loop μ-loop
 mul-t6 c = search needs
 
--- src/pairs.rt:39:59
 shared-slice-read-t9 : tie.Need-shared-slice-read-t9 Inv-loop μ-loop
 shared-slice-read-t9 c = search needs
 
--- src/pairs.rt:39:13
 first-contained-requires : tie.Need-first-contained-requires Inv-loop μ-loop
 first-contained-requires c κs = search needs
 
--- src/pairs.rt:40:26
 enum-known-contained : tie.Need-enum-known-contained Inv-loop μ-loop
 enum-known-contained c = search needs
 
--- src/pairs.rt:41:13
 returns : tie.Need-returns Inv-loop μ-loop
 returns c =
     let l = c .before .before .before .before .before .before .loop in
@@ -50,22 +41,18 @@ returns c =
 enum-told : tie.Need-enum-told Inv-loop μ-loop
 enum-told c = search needs
 
--- src/pairs.rt:43:9
 add-i : tie.Need-add-i Inv-loop μ-loop
 add-i c = search needs
 
--- src/pairs.rt:38:5
 loop-less : tie.Need-loop-less Inv-loop μ-loop
 loop-less c = search needs
 
--- src/pairs.rt:38:5
 loop-again : tie.Need-loop-again Inv-loop μ-loop
 loop-again c =
     let l = c .before .before .before .before .before .loop in
     let none = sym (c .before .before .first-contained .ensures) ∙ ap placeOf (c .enum-told .given .1) in
     (omega arith, below-more _ (l .i) (l .inv .1) none)
 
--- src/pairs.rt:34:1
 returns-2 : tie.Need-returns-2 Inv-loop μ-loop
 returns-2 c =
     let l = c .before .loop in

@@ -11,9 +11,6 @@ use Rattle.judge.specs.declared.pairs.Pair.the-variants.{Nothing}
 use borrow.Author.Needs.{needs}
 use Rattle.judge.proofs.pairs.first_sharing.Statement.{statement}
 use Rattle.judge.proofs.pairs.first_sharing.Tie as tie
-use Rattle.judge.proofs.pairs.first_sharing.Reads as reads
-use Rattle.judge.proofs.pairs.first_sharing.Lts as lts
-use Rattle.columns.proofs.ColumnSet.apart.Reads as apart-reads
 
 abbrev Inv-loop : tie.InvT-loop
 Inv-loop split found₀ i j₀ found j = (i < j) × (j ≤ length split) × (found ≡ Nothing) × ((job : Job) → UnlinkedTo job split i j)
@@ -27,62 +24,48 @@ Inv-search split found₀ i₀ found i = (i ≤ length split) × (found ≡ Noth
 abbrev μ-search : tie.MeasureT-search
 μ-search split found₀ i₀ found i = length split - i
 
--- src/pairs.rt:54:5
 search-holds : tie.Need-search-holds Inv-loop μ-loop Inv-search μ-search
 search-holds c = (search needs, refl, λ job k h. absurd (omega arith))
 
--- src/pairs.rt:55:21
 add-j : tie.Need-add-j Inv-loop μ-loop Inv-search μ-search
 add-j c = search needs
 
--- src/pairs.rt:56:9
 loop-holds : tie.Need-loop-holds Inv-loop μ-loop Inv-search μ-search
 loop-holds c = (omega arith, omega arith, c .before .search .inv .1, λ job k h g. absurd (omega arith))
 
--- src/pairs.rt:57:36
 mul-t7 : tie.Need-mul-t7 Inv-loop μ-loop Inv-search μ-search
 mul-t7 c = search needs
 
--- src/pairs.rt:57:36
 shared-slice-read-t10 : tie.Need-shared-slice-read-t10 Inv-loop μ-loop Inv-search μ-search
 shared-slice-read-t10 c = search needs
 
--- src/pairs.rt:57:72
 mul-t12 : tie.Need-mul-t12 Inv-loop μ-loop Inv-search μ-search
 mul-t12 c = search needs
 
--- src/pairs.rt:57:72
 shared-slice-read-t14 : tie.Need-shared-slice-read-t14 Inv-loop μ-loop Inv-search μ-search
 shared-slice-read-t14 c = search needs
 
--- src/pairs.rt:57:17
 apart-requires : tie.Need-apart-requires Inv-loop μ-loop Inv-search μ-search
 apart-requires c κs = search needs
 
--- src/pairs.rt:61:13
 add-j-2 : tie.Need-add-j-2 Inv-loop μ-loop Inv-search μ-search
 add-j-2 c = search needs
 
--- src/pairs.rt:56:9
 loop-less : tie.Need-loop-less Inv-loop μ-loop Inv-search μ-search
 loop-less c = search needs
 
--- src/pairs.rt:56:9
 loop-again : tie.Need-loop-again Inv-loop μ-loop Inv-search μ-search
 loop-again c =
     let l = c .before .before .before .before .before .loop in
     let apart = sym (c .before .apart .ensures) ∙ not-false _ (c .if1 .left) in
     (omega arith, omega arith, l .inv .2, λ job. below-more _ (l .j) (l .inv .3 job) (λ g. unlinked-apart job _ _ ∙ apart))
 
--- src/pairs.rt:63:9
 add-i : tie.Need-add-i Inv-loop μ-loop Inv-search μ-search
 add-i c = search needs
 
--- src/pairs.rt:54:5
 search-less : tie.Need-search-less Inv-loop μ-loop Inv-search μ-search
 search-less c = search needs
 
--- src/pairs.rt:54:5
 search-again : tie.Need-search-again Inv-loop μ-loop Inv-search μ-search
 search-again c =
     let l = c .before .loop in
@@ -90,7 +73,6 @@ search-again c =
     let last : l .j ≡ length (c .before .before .before .before .before .args .split .now) = omega arith in
     (omega arith, l .inv .2, λ job. below-more _ (o .i) (o .inv .2 job) (rw last at (l .inv .3 job)))
 
--- src/pairs.rt:49:1
 returns : tie.Need-returns Inv-loop μ-loop Inv-search μ-search
 returns c =
     let o = c .before .search in
@@ -98,7 +80,6 @@ returns c =
     let last : o .i ≡ length split = omega arith in
     λ job. rw (o .inv .1) (sym (sharing-nothing job split (rw last at (o .inv .2 job))))
 
--- src/pairs.rt:49:1
 returns-2 : tie.Need-returns-2 Inv-loop μ-loop Inv-search μ-search
 returns-2 c =
     let l = c .before .before .before .before .before .loop in

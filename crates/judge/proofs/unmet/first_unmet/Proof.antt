@@ -13,9 +13,6 @@ use Rattle.job.specs.Rows.{StandFor}
 use borrow.Author.Needs.{needs}
 use Rattle.judge.proofs.unmet.first_unmet.Statement.{statement}
 use Rattle.judge.proofs.unmet.first_unmet.Tie as tie
-use Rattle.judge.proofs.unmet.first_unmet.Reads as reads
-use Rattle.judge.proofs.unmet.first_unmet.Lts as lts
-use Rattle.judge.proofs.unmet.need_met.Reads as need-met-reads
 
 abbrev Inv-loop : tie.InvT-loop
 Inv-loop count split rows k₀ k =
@@ -25,23 +22,18 @@ Inv-loop count split rows k₀ k =
 abbrev μ-loop : tie.MeasureT-loop
 μ-loop count split rows k₀ k = count - k
 
--- src/unmet.rt:37:5
 loop-holds : tie.Need-loop-holds Inv-loop μ-loop
 loop-holds c = (search needs, search needs, λ needs n s k h. absurd (omega arith))
 
--- src/unmet.rt:38:19
 mul-row : tie.Need-mul-row Inv-loop μ-loop
 mul-row c = search needs
 
--- src/unmet.rt:38:19
 array-copy-out-row : tie.Need-array-copy-out-row Inv-loop μ-loop
 array-copy-out-row c = search needs
 
--- src/unmet.rt:39:13
 need-met-requires : tie.Need-need-met-requires Inv-loop μ-loop
 need-met-requires c κs = search needs
 
--- src/unmet.rt:40:13
 returns : tie.Need-returns Inv-loop μ-loop
 returns c =
     let l = c .before .before .before .before .before .loop in
@@ -51,15 +43,12 @@ returns c =
     let unmet = sym (ap not (c .before .need-met .ensures (getD needs (l .k) (column 0)) (s (l .k) here))) ∙ c .if1 .taken in
     sym (first-found (λ v. not (met split v)) (column 0) needs (l .k) here (l .inv .2 needs n s) unmet)
 
--- src/unmet.rt:42:9
 add-k : tie.Need-add-k Inv-loop μ-loop
 add-k c = search needs
 
--- src/unmet.rt:37:5
 loop-less : tie.Need-loop-less Inv-loop μ-loop
 loop-less c = search needs
 
--- src/unmet.rt:37:5
 loop-again : tie.Need-loop-again Inv-loop μ-loop
 loop-again c =
     let l = c .before .before .before .before .before .loop in (
@@ -71,7 +60,6 @@ loop-again c =
           below-more _ (l .k) (l .inv .2 needs n s) met,
     )
 
--- src/unmet.rt:32:1
 returns-2 : tie.Need-returns-2 Inv-loop μ-loop
 returns-2 c =
     let l = c .before .loop in

@@ -12,9 +12,6 @@ use Rattle.rules.proofs.FirstFaults.{met-found, met-nothing}
 use borrow.Author.Needs.{needs}
 use Rattle.judge.proofs.unmet.need_met.Statement.{statement}
 use Rattle.judge.proofs.unmet.need_met.Tie as tie
-use Rattle.judge.proofs.unmet.need_met.Reads as reads
-use Rattle.judge.proofs.unmet.need_met.Lts as lts
-use Rattle.needs.proofs.meets.Reads as meets-reads
 
 abbrev Inv-loop : tie.InvT-loop
 Inv-loop row split i₀ i =
@@ -23,44 +20,35 @@ Inv-loop row split i₀ i =
 abbrev μ-loop : tie.MeasureT-loop
 μ-loop row split i₀ i = length split - i
 
--- src/unmet.rt:22:5
 loop-holds : tie.Need-loop-holds Inv-loop μ-loop
 loop-holds c = (search needs, λ v e k h. absurd (omega arith))
 
--- src/unmet.rt:23:30
 mul-meets : tie.Need-mul-meets Inv-loop μ-loop
 mul-meets c = search needs
 
--- src/unmet.rt:23:30
 shared-slice-read-meets : tie.Need-shared-slice-read-meets Inv-loop μ-loop
 shared-slice-read-meets c = search needs
 
--- src/unmet.rt:23:12
 meets-requires : tie.Need-meets-requires Inv-loop μ-loop
 meets-requires c κs = search needs
 
--- src/unmet.rt:24:13
 returns : tie.Need-returns Inv-loop μ-loop
 returns c =
     let l = c .before .before .before .before .loop in
     let split = c .before .before .before .before .before .before .args .split .now in
     λ v e. sym (met-found v split (l .i) (omega arith) (sym (c .before .meets .ensures v e) ∙ c .if1 .taken))
 
--- src/unmet.rt:26:9
 add-i : tie.Need-add-i Inv-loop μ-loop
 add-i c = search needs
 
--- src/unmet.rt:22:5
 loop-less : tie.Need-loop-less Inv-loop μ-loop
 loop-less c = search needs
 
--- src/unmet.rt:22:5
 loop-again : tie.Need-loop-again Inv-loop μ-loop
 loop-again c =
     let l = c .before .before .before .before .loop in
     (omega arith, λ v e. below-more _ (l .i) (l .inv .1 v e) (sym (c .before .meets .ensures v e) ∙ c .if1 .left))
 
--- src/unmet.rt:18:1
 returns-2 : tie.Need-returns-2 Inv-loop μ-loop
 returns-2 c =
     let l = c .before .loop in

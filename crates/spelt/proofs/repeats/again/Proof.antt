@@ -1,16 +1,16 @@
 -- `spelt::repeats::again` is safe and ends. Assumes nothing.
 use mathlib.Core.Path.{_≡_}
 use Prim.Native.Nat.{_≤_, _-_}
-use lib.ListN.{length as lengthOf}
+use lib.ListN.{length}
 use borrow.Author.Needs.{needs}
 use Rattle.spelt.proofs.repeats.again.Statement.{statement}
 use Rattle.spelt.proofs.repeats.again.Tie as tie
 
 abbrev Inv-loop : tie.InvT-loop
-Inv-loop text₀ from to length end₀ i₀ text end i = (end ≤ lengthOf text) × (lengthOf text ≡ lengthOf text₀)
+Inv-loop text₀ from to filled end₀ i₀ text end i = (end ≤ length text) × (length text ≡ length text₀)
 
 abbrev μ-loop : tie.MeasureT-loop
-μ-loop text₀ from to length end₀ i₀ text end i = to - i
+μ-loop text₀ from to filled end₀ i₀ text end i = to - i
 
 loop-holds : tie.Need-loop-holds Inv-loop μ-loop
 loop-holds c = search needs

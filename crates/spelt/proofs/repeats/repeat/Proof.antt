@@ -1,16 +1,16 @@
 -- `spelt::repeats::repeat` is safe and ends. Assumes nothing.
 use mathlib.Core.Path.{_≡_}
 use Prim.Native.Nat.{_≤_, _-_}
-use lib.ListN.{length as lengthOf}
+use lib.ListN.{length}
 use borrow.Author.Needs.{needs}
 use Rattle.spelt.proofs.repeats.repeat.Statement.{statement}
 use Rattle.spelt.proofs.repeats.repeat.Tie as tie
 
 abbrev Inv-loop : tie.InvT-loop
-Inv-loop text₀ from length times end₀ done₀ text end done = (end ≤ lengthOf text) × (lengthOf text ≡ lengthOf text₀)
+Inv-loop text₀ from filled times end₀ done₀ text end done = (end ≤ length text) × (length text ≡ length text₀)
 
 abbrev μ-loop : tie.MeasureT-loop
-μ-loop text₀ from length times end₀ done₀ text end done = times - done
+μ-loop text₀ from filled times end₀ done₀ text end done = times - done
 
 loop-holds : tie.Need-loop-holds Inv-loop μ-loop
 loop-holds c = search needs

@@ -1,16 +1,16 @@
 -- `spelt::spelling::spell` is safe and ends. Assumes nothing.
 use mathlib.Core.Path.{_≡_}
 use Prim.Native.Nat.{_≤_, _-_}
-use lib.ListN.{length as lengthOf}
+use lib.ListN.{length}
 use borrow.Author.Needs.{needs}
 use Rattle.spelt.proofs.spelling.spell.Statement.{statement}
 use Rattle.spelt.proofs.spelling.spell.Tie as tie
 
 abbrev Inv-loop : tie.InvT-loop
-Inv-loop input named text₀ spelt₀ text spelt = (spelt .length ≤ lengthOf text) × (lengthOf text ≡ lengthOf text₀)
+Inv-loop input named text₀ spelt₀ text spelt = (spelt .filled ≤ length text) × (length text ≡ length text₀)
 
 abbrev μ-loop : tie.MeasureT-loop
-μ-loop input named text₀ spelt₀ text spelt = lengthOf input - spelt .at
+μ-loop input named text₀ spelt₀ text spelt = length input - spelt .at
 
 add-t6 : tie.Need-add-t6 Inv-loop μ-loop
 add-t6 c = search needs

@@ -1,16 +1,16 @@
 -- `texts::damaged::copied` is safe and ends. Assumes nothing.
 use mathlib.Core.Path.{_≡_}
 use Prim.Native.Nat.{_≤_, _-_}
-use lib.ListN.{length as lengthOf}
+use lib.ListN.{length}
 use borrow.Author.Needs.{needs}
 use Rattle.texts.proofs.damaged.copied.Statement.{statement}
 use Rattle.texts.proofs.damaged.copied.Tie as tie
 
 abbrev Inv-loop : tie.InvT-loop
-Inv-loop text from to other₀ before length₀ i₀ other length i = (length ≤ lengthOf other) × (lengthOf other ≡ lengthOf other₀)
+Inv-loop text from to other₀ before end₀ i₀ other end i = (end ≤ length other) × (length other ≡ length other₀)
 
 abbrev μ-loop : tie.MeasureT-loop
-μ-loop text from to other₀ before length₀ i₀ other length i = to - i
+μ-loop text from to other₀ before end₀ i₀ other end i = to - i
 
 loop-holds : tie.Need-loop-holds Inv-loop μ-loop
 loop-holds c = search needs
