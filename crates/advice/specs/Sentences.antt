@@ -7,8 +7,8 @@ use Prim.Native.String.{String}
 use lib.Dec.{eqb, ltb, leb}
 use lib.ListN.{length, take, drop}
 use Rattle.rules.specs.Lists.{every}
-use Rattle.rules.specs.Signs.{byteAt, piece, digit, inName, lineEnd, comma, plus, ampersand, bar, bracketOpen, bracketClose, forbidKey}
-use Rattle.rules.specs.Words.{bytes, decimal}
+use Rattle.rules.specs.Signs.{bytes, byteAt, piece, digit, inName, lineEnd, comma, plus, ampersand, bar, bracketOpen, bracketClose, forbidKey}
+use Rattle.rules.specs.Words.{decimal}
 use Rattle.rules.specs.Names.{mostNameBytes}
 use Rattle.rules.specs.Phrases.{mostBrackets}
 use Rattle.rules.specs.Refusals.{textTooLong, textNotOfForm, tooMany, nameTwice, nameUnknown, endNumberOther, noCorrectSplit}

@@ -3,7 +3,7 @@ use crate::position::Position;
 use crate::wrong::Wrong;
 use naming::signs::byte;
 use writing::put;
-ghost use Rattle.rules.specs.Words.{bytes};
+ghost use Rattle.rules.specs.Signs.{bytes};
 ghost use Rattle.writing.specs.Added.{Adds};
 ghost use Rattle.advice.specs.Positions.{positionIn};
 ghost use Rattle.advice.specs.Sentences.{wordsFor, tooManyWords};

@@ -10,7 +10,7 @@ use lib.ListN.{length, getD, replicate, length-append}
 use borrow.Author.Tests.{leb-true}
 use Rattle.rules.specs.Lists.{every, keep, upFrom}
 use Rattle.rules.specs.Sets.{members, size}
-use Rattle.rules.specs.Signs.{comma}
+use Rattle.rules.specs.Signs.{bytes, comma}
 use Rattle.rules.specs.Names.{mostNameBytes}
 use Rattle.rules.specs.Jobs.{Job}
 use Rattle.rules.specs.Numbers.{jobOf}
@@ -21,7 +21,7 @@ use Rattle.rules.specs.Plannings.{planRoom}
 use Rattle.rules.specs.Texts.{Sheet, OfForm}
 use Rattle.rules.specs.Sheets.{Refusal, sheetFault, numbersOf, namesOf}
 use Rattle.rules.specs.Readings.{mostBytes, Reading, refused as notRead, taken, readingOf, Reads, too-long, not-of-form, of-form}
-use Rattle.rules.specs.Words.{bytes, digits, decimal, keyedLine}
+use Rattle.rules.specs.Words.{digits, decimal, keyedLine}
 use Rattle.rules.specs.Pages.{Outcome, refused, released, plannedWith, outcomeOf, behindCommas, joinedNames, namesAt, extractLines, page, mostPageBytes}
 use Rattle.rules.proofs.Lists.{and-parts}
 use Rattle.rules.proofs.Numbers.{job-fit}
@@ -45,17 +45,17 @@ volunteers = bytes "steward" ∷ bytes "born" ∷ bytes "home" ∷ bytes "duty" 
 -- its page
 pub whole-case-page : page (released volunteers (24 ∷ 35 ∷ []))
     ≡ bytes "result=split\nextracts=2\nextract=duty,illness\nextract=steward,born,panel\n"
-unfolding bytes decimal digits keyedLine behindCommas joinedNames namesAt extractLines page members keep upFrom
+unfolding decimal digits keyedLine behindCommas joinedNames namesAt extractLines page members keep upFrom
 whole-case-page = refl
 
 -- the page of a job without needs
 pub no-extract-page : page (released volunteers []) ≡ bytes "result=split\nextracts=0\n"
-unfolding bytes decimal digits keyedLine extractLines page
+unfolding decimal digits keyedLine extractLines page
 no-extract-page = refl
 
 -- the page of a refusal
 pub refusal-page : page (refused 5 8192) ≡ bytes "result=refused\nnumber=5\nplace=8192\n"
-unfolding bytes decimal digits keyedLine page
+unfolding decimal digits keyedLine page
 refusal-page = refl
 
 -- ---- one more
@@ -155,7 +155,7 @@ outcome-ways {s} (of-form sheet l f) = go (sheetFault sheet) refl
 
 -- a refusal's number has one digit and its place at most four
 refusal-fits : (number place : ℕ) → number < 10 → place ≤ mostBytes → length (page (refused number place)) ≤ mostPageBytes
-unfolding page bytes
+unfolding page
 refusal-fits number place h l =
     let a = keyedLine-length "result=" (bytes "refused") in
     let b = keyedLine-length "number=" (decimal number) in
@@ -197,7 +197,7 @@ module _ (names : List (List ℕ)) (short : (i : ℕ) → length (getD names i [
 
   module _ (job : Job) (few : job .columns ≤ 16) where
     lines-fit : (split : List ℕ) → every (proper job) split ≡ true → length (extractLines names split) ≤ 8 * length split + 13 * cost job split
-    unfolding extractLines every cost size bytes
+    unfolding extractLines every cost size
     lines-fit [] e = omega arith
     lines-fit (s ∷ split) e =
         let both = and-parts (proper job s) (every (proper job) split) e in
@@ -211,7 +211,7 @@ module _ (names : List (List ℕ)) (short : (i : ℕ) → length (getD names i [
         omega arith
 
     split-fits : (split : List ℕ) → correct job split ≡ true → length split ≤ 8 → length (page (released names split)) ≤ mostPageBytes
-    unfolding page bytes
+    unfolding page
     split-fits split e h =
         let a = keyedLine-length "result=" (bytes "split") in
         let b = keyedLine-length "extracts=" (decimal (length split)) in

@@ -9,8 +9,8 @@ use native.Mathlib.Omega.{arith}
 use lib.Dec.{ltb}
 use lib.ListN.{length, length-append}
 use borrow.Author.Tests.{ltb-true, ltb-false, lt-ltb, le-ltb}
-use Rattle.rules.specs.Signs.{lineEnd}
-use Rattle.rules.specs.Words.{bytes, digits, decimal, keyedLine}
+use Rattle.rules.specs.Signs.{bytes, lineEnd}
+use Rattle.rules.specs.Words.{digits, decimal, keyedLine}
 
 -- ---- the digits of a number
 

@@ -3,8 +3,8 @@ use mathlib.Core.List.{List, [], _∷_, _++_, map}
 use Prim.Native.Nat.{ℕ}
 use lib.ListN.{length, getD, replicate}
 use Rattle.rules.specs.Sets.{members}
-use Rattle.rules.specs.Signs.{comma}
-use Rattle.rules.specs.Words.{bytes, decimal, keyedLine}
+use Rattle.rules.specs.Signs.{bytes, comma}
+use Rattle.rules.specs.Words.{decimal, keyedLine}
 use Rattle.rules.specs.Readings.{Reading, refused as notRead, taken}
 use Rattle.rules.specs.Plannings.{Planning, refused as notPlanned, planned, planning, planRoom}
 

@@ -2,7 +2,9 @@
 use mathlib.Core.Path.{_≡_}
 use mathlib.Core.Bool.{Bool, _&&_, _||_}
 use mathlib.Core.List.{List, [], _∷_}
+use Prim.Native.Char.{code}
 use Prim.Native.Nat.{ℕ, suc, _-_}
+use Prim.Native.String.{String, [] as nothing, _∷_ as _before_}
 use lib.Dec.{leb}
 use lib.ListN.{getD, take, drop}
 
@@ -52,18 +54,20 @@ bracketOpen = 40
 abbrev pub bracketClose : ℕ
 bracketClose = 41
 
--- columns=
+-- the bytes of words in ASCII
+abbrev pub bytes : String → List ℕ
+bytes nothing = []
+bytes (c before s) = code c ∷ bytes s
+
+-- the keys of a text's lines
 abbrev pub columnsKey : List ℕ
-columnsKey = 99 ∷ 111 ∷ 108 ∷ 117 ∷ 109 ∷ 110 ∷ 115 ∷ 61 ∷ []
+columnsKey = bytes "columns="
 
--- forbid=
 abbrev pub forbidKey : List ℕ
-forbidKey = 102 ∷ 111 ∷ 114 ∷ 98 ∷ 105 ∷ 100 ∷ 61 ∷ []
+forbidKey = bytes "forbid="
 
--- need=
 abbrev pub needKey : List ℕ
-needKey = 110 ∷ 101 ∷ 101 ∷ 100 ∷ 61 ∷ []
+needKey = bytes "need="
 
--- end=
 abbrev pub endKey : List ℕ
-endKey = 101 ∷ 110 ∷ 100 ∷ 61 ∷ []
+endKey = bytes "end="

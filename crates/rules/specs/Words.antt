@@ -1,16 +1,10 @@
 -- Words as bytes, and numbers in digits: what written lines are made of.
 use mathlib.Core.Bool.{cond}
 use mathlib.Core.List.{List, [], _∷_, _++_}
-use Prim.Native.Char.{code}
 use Prim.Native.Nat.{ℕ, zero, suc, _+_, _/_, _%_}
-use Prim.Native.String.{String, [] as nothing, _∷_ as _before_}
+use Prim.Native.String.{String}
 use lib.Dec.{ltb}
-use Rattle.rules.specs.Signs.{lineEnd}
-
--- the bytes of words in ASCII
-unfoldable pub bytes : String → List ℕ
-bytes nothing = []
-bytes (c before s) = code c ∷ bytes s
+use Rattle.rules.specs.Signs.{bytes, lineEnd}
 
 -- the digits of a number, or the last k where it has more
 unfoldable pub digits : ℕ → ℕ → List ℕ

@@ -1,6 +1,5 @@
 -- `advice::advise` meets its contract. Assumes nothing.
 use native.Mathlib.Omega.{arith}
-use Rattle.rules.specs.Words.{bytes}
 use Rattle.advice.specs.Sentences.{sentence}
 use Rattle.writing.proofs.Adding.{holds-added}
 use Rattle.advice.proofs.Held.{holds-remedy, holds-none, holds-other}
@@ -18,7 +17,7 @@ same-length : tie.Need-same-length
 same-length c = search needs
 
 returns : tie.Need-returns
-unfolding bytes sentence
+unfolding sentence
 returns c =
     let call = c .before .before in
     rw (call .before .before .before .if1 .taken) (holds-added (call .put .ensures))

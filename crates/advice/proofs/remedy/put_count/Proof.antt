@@ -1,6 +1,5 @@
 -- `advice::remedy::put_count` meets its contract. Assumes nothing.
 use mathlib.Core.Path.{sym}
-use Rattle.rules.specs.Words.{bytes}
 use Rattle.writing.proofs.Adding.{adds-both}
 use borrow.Author.Needs.{needs}
 use Rattle.advice.proofs.remedy.put_count.Statement.{statement}
@@ -28,7 +27,6 @@ same-length : tie.Need-same-length
 same-length c = search needs
 
 returns : tie.Need-returns
-unfolding bytes
 returns c =
     let last = c .before .before in
     let number = last .before .before .before .before .before in

@@ -1,5 +1,4 @@
 -- `advice::remedy::put_located` meets its contract. Assumes nothing.
-use Rattle.rules.specs.Words.{bytes}
 use Rattle.writing.proofs.Adding.{adds-both}
 use Rattle.advice.specs.Sentences.{located}
 use borrow.Author.Needs.{needs}
@@ -34,7 +33,7 @@ same-length : tie.Need-same-length
 same-length c = search needs
 
 returns : tie.Need-returns
-unfolding bytes located
+unfolding located
 returns c =
     let last = c .before .before in
     let column = last .before .before .before .before .before in

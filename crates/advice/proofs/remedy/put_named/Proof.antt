@@ -1,5 +1,4 @@
 -- `advice::remedy::put_named` meets its contract. Assumes nothing.
-use Rattle.rules.specs.Words.{bytes}
 use Rattle.writing.proofs.Adding.{adds-both}
 use borrow.Author.Needs.{needs}
 use Rattle.advice.proofs.remedy.put_named.Statement.{statement}
@@ -21,7 +20,6 @@ same-length : tie.Need-same-length
 same-length c = search needs
 
 returns : tie.Need-returns
-unfolding bytes
 returns c =
     let last = c .before .before in
     let name = last .before .before .before .before in

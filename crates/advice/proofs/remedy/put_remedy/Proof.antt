@@ -2,7 +2,6 @@
 use mathlib.Core.Path.{sym}
 use borrow.Author.Tests.{ne-eqb}
 use Rattle.rules.specs.Refusals.{textTooLong, textNotOfForm, tooMany, nameTwice, nameUnknown}
-use Rattle.rules.specs.Words.{bytes}
 use Rattle.advice.specs.Sentences.{remedy}
 use borrow.Author.Needs.{needs}
 use Rattle.advice.proofs.remedy.put_remedy.Statement.{statement}
@@ -18,7 +17,7 @@ same-length : tie.Need-same-length
 same-length c = search needs
 
 returns : tie.Need-returns
-unfolding bytes remedy
+unfolding remedy
 returns c =
     let call = c .before .before in
     rw (call .before .before .before .if1 .taken) (call .put .ensures)
@@ -60,7 +59,7 @@ same-length-4 : tie.Need-same-length-4
 same-length-4 c = search needs
 
 returns-4 : tie.Need-returns-4
-unfolding bytes remedy
+unfolding remedy
 returns-4 c =
     let call = c .before .before in
     rw (call .before .before .before .if4 .taken) (call .put-named .ensures)
@@ -75,7 +74,7 @@ same-length-5 : tie.Need-same-length-5
 same-length-5 c = search needs
 
 returns-5 : tie.Need-returns-5
-unfolding bytes remedy
+unfolding remedy
 returns-5 c =
     let call = c .before .before in
     rw (call .before .before .before .if5 .taken) (call .put-named2 .ensures)

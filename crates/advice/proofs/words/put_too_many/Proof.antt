@@ -1,7 +1,6 @@
 -- `advice::words::put_too_many` meets its contract. Assumes nothing.
 use mathlib.Core.Path.{sym}
 use borrow.Author.Tests.{ne-eqb}
-use Rattle.rules.specs.Words.{bytes}
 use Rattle.advice.specs.Sentences.{tooManyWords}
 use borrow.Author.Needs.{needs}
 use Rattle.advice.proofs.words.put_too_many.Statement.{statement}
@@ -17,7 +16,7 @@ same-length : tie.Need-same-length
 same-length c = search needs
 
 returns : tie.Need-returns
-unfolding bytes tooManyWords
+unfolding tooManyWords
 returns c =
     let call = c .before .before in
     rw (call .before .before .before .if1 .taken) (call .put .ensures)
@@ -32,7 +31,7 @@ same-length-2 : tie.Need-same-length-2
 same-length-2 c = search needs
 
 returns-2 : tie.Need-returns-2
-unfolding bytes tooManyWords
+unfolding tooManyWords
 returns-2 c =
     let call = c .before .before in
     let test = call .before .before .before in
@@ -51,7 +50,7 @@ same-length-3 : tie.Need-same-length-3
 same-length-3 c = search needs
 
 returns-3 : tie.Need-returns-3
-unfolding bytes tooManyWords
+unfolding tooManyWords
 returns-3 c =
     let call = c .before .before in
     let test = call .before .before .before in
@@ -68,7 +67,7 @@ same-length-4 : tie.Need-same-length-4
 same-length-4 c = search needs
 
 returns-4 : tie.Need-returns-4
-unfolding bytes tooManyWords
+unfolding tooManyWords
 returns-4 c =
     let call = c .before .before in
     let test = call .before .before .before in

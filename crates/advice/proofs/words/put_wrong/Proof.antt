@@ -1,5 +1,4 @@
 -- `advice::words::put_wrong` meets its contract. Assumes nothing.
-use Rattle.rules.specs.Words.{bytes}
 use borrow.Author.Needs.{needs}
 use Rattle.advice.proofs.words.put_wrong.Statement.{statement}
 use Rattle.advice.proofs.words.put_wrong.Tie as tie
@@ -116,84 +115,72 @@ same-length : tie.Need-same-length
 same-length c = search needs
 
 returns : tie.Need-returns
-unfolding bytes
 returns c = rw (c .before .before .before .before .before .enum-told .given .1) (c .before .before .put .ensures)
 
 same-length-2 : tie.Need-same-length-2
 same-length-2 c = search needs
 
 returns-2 : tie.Need-returns-2
-unfolding bytes
 returns-2 c = rw (c .before .before .before .before .before .enum-told2 .given .1) (c .before .before .put2 .ensures)
 
 same-length-3 : tie.Need-same-length-3
 same-length-3 c = search needs
 
 returns-3 : tie.Need-returns-3
-unfolding bytes
 returns-3 c = rw (c .before .before .before .before .before .enum-told3 .given .1) (c .before .before .put3 .ensures)
 
 same-length-4 : tie.Need-same-length-4
 same-length-4 c = search needs
 
 returns-4 : tie.Need-returns-4
-unfolding bytes
 returns-4 c = rw (c .before .before .before .before .before .enum-told4 .given .1) (c .before .before .put4 .ensures)
 
 same-length-5 : tie.Need-same-length-5
 same-length-5 c = search needs
 
 returns-5 : tie.Need-returns-5
-unfolding bytes
 returns-5 c = rw (c .before .before .before .before .before .enum-told5 .given .1) (c .before .before .put5 .ensures)
 
 same-length-6 : tie.Need-same-length-6
 same-length-6 c = search needs
 
 returns-6 : tie.Need-returns-6
-unfolding bytes
 returns-6 c = rw (c .before .before .before .before .before .enum-told6 .given .1) (c .before .before .put6 .ensures)
 
 same-length-7 : tie.Need-same-length-7
 same-length-7 c = search needs
 
 returns-7 : tie.Need-returns-7
-unfolding bytes
 returns-7 c = rw (c .before .before .before .before .before .enum-told7 .given .1) (c .before .before .put7 .ensures)
 
 same-length-8 : tie.Need-same-length-8
 same-length-8 c = search needs
 
 returns-8 : tie.Need-returns-8
-unfolding bytes
 returns-8 c = rw (c .before .before .before .before .before .enum-told8 .given .1) (c .before .before .put8 .ensures)
 
 same-length-9 : tie.Need-same-length-9
 same-length-9 c = search needs
 
 returns-9 : tie.Need-returns-9
-unfolding bytes
 returns-9 c = rw (c .before .before .before .before .before .enum-told9 .given .1) (c .before .before .put9 .ensures)
 
 same-length-10 : tie.Need-same-length-10
 same-length-10 c = search needs
 
 returns-10 : tie.Need-returns-10
-unfolding bytes
 returns-10 c = rw (c .before .before .before .before .before .enum-told10 .given .1) (c .before .before .put10 .ensures)
 
 same-length-11 : tie.Need-same-length-11
 same-length-11 c = search needs
 
 returns-11 : tie.Need-returns-11
-unfolding bytes
 returns-11 c = rw (c .before .before .before .before .before .enum-told11 .given .1) (c .before .before .put11 .ensures)
 
 same-length-12 : tie.Need-same-length-12
 same-length-12 c = search needs
 
 returns-12 : tie.Need-returns-12
-unfolding bytes
 returns-12 c = rw (c .before .before .before .before .before .enum-told12 .given .1) (c .before .before .put12 .ensures)
 
 pub put-wrong-spec : {M : Type 1} → statement M

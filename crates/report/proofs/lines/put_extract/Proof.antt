@@ -1,5 +1,5 @@
 -- `report::lines::put_extract` meets its contract. Assumes nothing.
-use Rattle.rules.specs.Words.{bytes, keyedLine}
+use Rattle.rules.specs.Words.{keyedLine}
 use Rattle.writing.proofs.Adding.{adds-both}
 use borrow.Author.Needs.{needs}
 use Rattle.report.proofs.lines.put_extract.Statement.{statement}
@@ -21,7 +21,7 @@ same-length : tie.Need-same-length
 same-length c = search needs
 
 returns : tie.Need-returns
-unfolding bytes keyedLine
+unfolding keyedLine
 returns c =
     λ columns is.
     let end = c .before .before in

@@ -1,5 +1,5 @@
 -- `report::lines::put_refusal` meets its contract. Assumes nothing.
-use Rattle.rules.specs.Words.{bytes, keyedLine}
+use Rattle.rules.specs.Words.{keyedLine}
 use Rattle.rules.specs.Pages.{page}
 use Rattle.writing.proofs.Adding.{adds-both}
 use borrow.Author.Needs.{needs}
@@ -28,7 +28,7 @@ same-length : tie.Need-same-length
 same-length c = search needs
 
 returns : tie.Need-returns
-unfolding bytes keyedLine page
+unfolding keyedLine page
 returns c =
     let place = c .before .before in
     let number = place .before .before .before .before .before in

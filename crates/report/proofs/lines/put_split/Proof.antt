@@ -1,5 +1,5 @@
 -- `report::lines::put_split` meets its contract. Assumes nothing.
-use Rattle.rules.specs.Words.{bytes, keyedLine}
+use Rattle.rules.specs.Words.{keyedLine}
 use Rattle.rules.specs.Pages.{page}
 use Rattle.writing.proofs.Adding.{adds-both}
 use borrow.Author.Needs.{needs}
@@ -25,7 +25,7 @@ same-length : tie.Need-same-length
 same-length c = search needs
 
 returns : tie.Need-returns
-unfolding bytes keyedLine page
+unfolding keyedLine page
 returns c =
     λ columns is.
     let lines = c .before .before in
