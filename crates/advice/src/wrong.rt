@@ -1,6 +1,7 @@
 // What is wrong where a text stops being of the form.
 use crate::numbers::less;
 use naming::signs::LINE_END;
+use naming::signs::MOST_BRACKETS;
 use naming::signs::digit;
 use naming::signs::in_name;
 use naming::words::MOST_NAME_BYTES;
@@ -10,9 +11,6 @@ ghost use Prim.Native.Nat.{_<_, _≤_};
 ghost use lib.ListN.{length, take};
 ghost use Rattle.rules.specs.Signs.{inName};
 ghost use Rattle.advice.specs.Sentences.{capital as capitalByte, joining as joiningByte, inKey, nameFull, openAfter, wrongSign, wrongAt};
-
-// "Brackets nested at most 8."
-const MOST_BRACKETS: usize = 8;
 
 pub enum Wrong {
     EndsEarly,

@@ -1,5 +1,5 @@
 -- Walks over lines and over the names of a line, with what is known of those that are left. Assumes nothing.
-use mathlib.Core.Path.{_≡_, refl, sym, _∙_}
+use mathlib.Core.Path.{_≡_, refl}
 use mathlib.Core.Bool.{true, false}
 use mathlib.Core.List.{List, [], _∷_, _++_}
 use Prim.Native.Nat.{ℕ, zero, suc, _+_, _-_, _<_, _≤_}
@@ -8,38 +8,8 @@ use lib.ListN.{length}
 use Rattle.rules.specs.Signs.{byteAt, Says, inName}
 use Rattle.rules.specs.Names.{Spot, spot, Run, Name}
 use Rattle.rules.specs.Texts.{Line, line}
-use Rattle.rules.proofs.Signs.{inside, says-first}
 use Rattle.naming.specs.Words.{isSign, Skips, Between, nothing, sign, word, Words, Rows, no-row, one-row}
-use Rattle.naming.proofs.Walks.{between-forward, between-append, words-some, Ahead, ahead-start, ahead-turn, ahead-end}
-use Rattle.faults.specs.Kinds.{keyOf, widthOf}
-use Rattle.faults.specs.declared.sections.Section.{Section}
-use Rattle.faults.specs.declared.sections.Section.the-variants.{Columns, Forbid, Need}
-
--- ---- places
-
--- a byte that is not 0 lies within the text
-pub byte-inside : (s : List ℕ) {p b : ℕ} → byteAt s p ≡ b → (b ≡ 0 → ⊥) → p < length s
-byte-inside s {p} e n = inside s p (λ z. n (sym e ∙ z))
-
--- where a line begins lies within the text
-pub line-inside : {s : List ℕ} {p b : ℕ} {key : List ℕ} → Says s p (b ∷ key) → (b ≡ 0 → ⊥) → p < length s
-line-inside {s} says n = byte-inside s (says-first says .0) n
-
--- so does where one of a kind begins
-pub key-inside : {s : List ℕ} (section : Section) {p : ℕ} → Says s p (keyOf section) → p < length s
-key-inside Columns says = line-inside says (λ z. absurd (omega arith))
-key-inside Forbid says = line-inside says (λ z. absurd (omega arith))
-key-inside Need says = line-inside says (λ z. absurd (omega arith))
-
--- a key has a few bytes
-pub width-bounds : (section : Section) → (1 ≤ widthOf section) × (widthOf section ≤ 8)
-width-bounds Columns = (omega arith, omega arith)
-width-bounds Forbid = (omega arith, omega arith)
-width-bounds Need = (omega arith, omega arith)
-
--- a line ends within the text
-pub words-inside : {s : List ℕ} {p q : ℕ} {names : List Spot} → Words s p q names → (p ≤ q) × (q < length s)
-words-inside {s} w = (between-forward (w .between), byte-inside s (w .ends) (λ z. absurd (omega arith)))
+use Rattle.naming.proofs.Walks.{between-append, words-some, Ahead, ahead-start, ahead-turn, ahead-end}
 
 -- ---- lines
 

@@ -25,7 +25,7 @@ use Rattle.faults.specs.Kinds.{rowsOver, Walks, Sectioned}
 use Rattle.faults.specs.declared.sections.Walked.{Walked}
 use Rattle.faults.specs.declared.sections.Places.{Places}
 use Rattle.faults.proofs.Refusing.{map-first}
-use Rattle.faults.proofs.Left.{byte-inside, line-inside}
+use Rattle.naming.proofs.KeyPlaces.{byte-inside, line-inside}
 use Rattle.faults.proofs.Counted.{needs-rows}
 
 -- ---- the number at the end

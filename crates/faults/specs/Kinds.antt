@@ -1,34 +1,24 @@
--- The kinds of lines that have names, and where they stand.
+-- Which faults the names of a section's lines have, and where the sections stand.
 use mathlib.Core.Path.{_≡_}
 use mathlib.Core.List.{List, [], _∷_}
 use mathlib.Core.Option.{Option, none, some, orElse}
 use Prim.Native.Nat.{ℕ, zero, suc, _+_}
 use lib.ListN.{length}
 use Rattle.rules.specs.Numbers.{mostColumnMarks}
-use Rattle.rules.specs.Signs.{columnsKey, forbidKey, needKey}
 use Rattle.rules.specs.Names.{Spot}
 use Rattle.rules.specs.Texts.{Line, Sheet, OfForm}
 use Rattle.rules.specs.Sheets.{nameAfter, columnFault, forbidFault, needFault, linesIn}
-use Rattle.faults.specs.declared.sections.Section.{Section}
-use Rattle.faults.specs.declared.sections.Section.the-variants.{Columns, Forbid, Need}
+use Rattle.naming.specs.declared.sections.Section.{Section}
+use Rattle.naming.specs.declared.sections.Section.the-variants.{Columns, Forbid, Need, End}
 use Rattle.faults.specs.declared.sections.Walked.{Walked}
 use Rattle.faults.specs.declared.sections.Places.{Places}
 
--- the bytes that a line begins with
-abbrev pub keyOf : Section → List ℕ
-keyOf Columns = columnsKey
-keyOf Forbid = forbidKey
-keyOf Need = needKey
-
--- how many they are
-abbrev pub widthOf : Section → ℕ
-widthOf section = length (keyOf section)
-
--- when a name of such a line is at fault
+-- when a name of a section's line is at fault; an end line has none
 abbrev pub faultBy : Section → List Spot → List Spot → Spot → Option ℕ
 faultBy Columns columns = columnFault
 faultBy Forbid columns = forbidFault columns
 faultBy Need columns = needFault columns
+faultBy End columns = λ before x. none
 
 -- of need lines of which k may stand, with their names: the 33rd name of one of the first k, or the line after them
 unfoldable pub rowsOver : ℕ → List (Line (List Spot)) → Option ℕ

@@ -3,6 +3,8 @@ use crate::fault::Fault;
 use crate::fault::no_fault;
 use crate::sections::Places;
 use job::refusals::END_NUMBER_OTHER;
+use naming::sections::Section;
+use naming::sections::width;
 use naming::signs::byte;
 ghost use mathlib.Core.Path.{_≡_};
 ghost use Prim.Native.Nat.{ℕ, _-_};
@@ -11,9 +13,6 @@ ghost use Rattle.rules.specs.Texts.{Number, Sheet, OfForm};
 ghost use Rattle.rules.specs.Sheets.{endFault};
 ghost use Rattle.faults.specs.Refused.{refusalIn};
 ghost use Rattle.faults.specs.Kinds.{Sectioned};
-
-// The number stands behind `end=`.
-const END_WIDTH: usize = 4;
 
 // What a digit is worth.
 fn worth(digit: u8) -> usize
@@ -51,7 +50,7 @@ pub fn end_fault(text: &[u8], places: Places) -> Fault
     if text.len() <= places.end {
         return no_fault();
     }
-    let at = places.end + END_WIDTH;
+    let at = places.end + width(Section::End);
     if number(text, at) == places.lines {
         return no_fault();
     }

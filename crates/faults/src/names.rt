@@ -2,15 +2,15 @@
 use crate::fault::Fault;
 use crate::fault::no_fault;
 use crate::sections::Places;
-use crate::sections::Section;
-use crate::sections::key_stands;
-use crate::sections::next_line;
-use crate::sections::width;
 use columns::ColumnSet;
 use job::refusals::NAME_TWICE;
 use job::refusals::NAME_UNKNOWN;
 use naming::known::COLUMNS_FROM;
 use naming::known::column_of;
+use naming::sections::Section;
+use naming::sections::key_stands;
+use naming::sections::next_line;
+use naming::sections::width;
 use naming::signs::byte;
 use naming::signs::in_name;
 use naming::words::name_end;
@@ -27,8 +27,9 @@ ghost use Rattle.rules.specs.Names.{Spot, spot, Run};
 ghost use Rattle.rules.specs.Texts.{Line, Sheet, OfForm};
 ghost use Rattle.rules.specs.Sheets.{columnFault, needFault, firstNameFault, linesFault, namesFault};
 ghost use Rattle.naming.specs.Words.{Between, Words, Rows, columnsFrom};
+ghost use Rattle.naming.specs.Sections.{keyOf};
 ghost use Rattle.faults.specs.Refused.{numberIn, refusalIn};
-ghost use Rattle.faults.specs.Kinds.{keyOf, faultBy, Sectioned};
+ghost use Rattle.faults.specs.Kinds.{faultBy, Sectioned};
 
 // 4 if the name stands before in its line, else 0.
 fn repeated(text: &[u8], from: usize, at: usize) -> u16
@@ -70,6 +71,8 @@ fn fault_of(text: &[u8], section: Section, from: usize, at: usize) -> u16
             }
             repeated(text, from, at)
         }
+        // no names stand behind its key
+        Section::End => 0,
     }
 }
 

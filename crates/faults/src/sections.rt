@@ -1,61 +1,15 @@
 // Where the lines of each kind begin in a text of the form.
-use naming::known::COLUMNS_FROM;
-use naming::signs::stands;
-use naming::words::line_end;
-ghost use mathlib.Core.Path.{_≡_};
-ghost use mathlib.Core.Bool.{true, false};
+use naming::sections::Section;
+use naming::sections::key_stands;
+use naming::sections::next_line;
 ghost use mathlib.Core.List.{List};
-ghost use Prim.Native.Nat.{ℕ, _+_, _<_, _≤_};
+ghost use Prim.Native.Nat.{ℕ, _≤_};
 ghost use lib.ListN.{length};
-ghost use Rattle.rules.specs.Signs.{Says};
 ghost use Rattle.rules.specs.Names.{Spot};
 ghost use Rattle.rules.specs.Texts.{Line, Sheet, OfForm};
-ghost use Rattle.naming.specs.Words.{Words, Rows};
-ghost use Rattle.faults.specs.Kinds.{keyOf, widthOf, Walks, Sectioned};
-
-// The kinds of lines that have names.
-pub enum Section {
-    Columns,
-    Forbid,
-    Need,
-}
-
-// Whether a line of a kind begins at a place.
-pub fn key_stands(text: &[u8], section: Section, at: usize) -> bool
-    ensures there { λ r. ⌜ (r ≡ true → Says (now (text .entry)) at (keyOf section)) ⌝ }
-    ensures missing { λ r. ⌜ (r ≡ false → Says (now (text .entry)) at (keyOf section) → ⊥) ⌝ }
-{
-    match section {
-        Section::Columns => stands(text, at, b"columns="),
-        Section::Forbid => stands(text, at, b"forbid="),
-        Section::Need => stands(text, at, b"need="),
-    }
-}
-
-// How many bytes stand before its value.
-pub fn width(section: Section) -> usize
-    ensures { λ r. ⌜ r ≡ widthOf section ⌝ }
-{
-    match section {
-        Section::Columns => COLUMNS_FROM,
-        Section::Forbid => 7,
-        Section::Need => 5,
-    }
-}
-
-// The place behind the line of a kind that begins at a place.
-pub fn next_line(text: &[u8], section: Section, at: usize) -> usize
-    requires { ⌜ at ≤ length (now text) ⌝ }
-    ensures later { λ r. ⌜ at < r ⌝ }
-    ensures is { λ r. ⌜ ((q : ℕ) (names : List Spot) → Words (now (text .entry)) (at + widthOf section) q names → r ≡ q + 1) ⌝ }
-{
-    let value = at + width(section);
-    // so that the sum can't overflow; never so in a text of the form
-    if text.len() < value {
-        return value;
-    }
-    line_end(text, value) + 1
-}
+ghost use Rattle.naming.specs.Words.{Rows};
+ghost use Rattle.naming.specs.Sections.{keyOf};
+ghost use Rattle.faults.specs.Kinds.{Walks, Sectioned};
 
 // How many lines there are, and the place behind them.
 pub struct Walked {

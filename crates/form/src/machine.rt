@@ -1,6 +1,7 @@
 // A machine that takes a text byte by byte, so that the byte at which it goes wrong is the place where the text stops being of the form. Its state is
 // what the bytes so far say about the bytes that may come.
 use naming::signs::LINE_END;
+use naming::signs::MOST_BRACKETS;
 use naming::signs::digit;
 use naming::signs::in_name;
 use naming::signs::letter;
@@ -19,9 +20,6 @@ const FORBID: usize = 1;
 const NEED: usize = 2;
 
 const END: usize = 3;
-
-// "Brackets nested at most 8."
-const MOST_BRACKETS: usize = 8;
 
 // What stands of the end line's number.
 const NO_DIGIT: usize = 0;

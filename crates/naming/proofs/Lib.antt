@@ -3,6 +3,7 @@ pub mod Said
 pub mod Runs
 pub mod Alike
 pub mod Walks
+pub mod KeyPlaces
 pub mod PhraseNames
 pub mod Sought
 pub mod Laid

@@ -6,6 +6,9 @@ ghost use Rattle.naming.specs.Words.{isSign};
 
 pub const LINE_END: u8 = b'\n';
 
+// "Brackets nested at most 8."
+pub const MOST_BRACKETS: usize = 8;
+
 // The byte at a place; 0 past the end, which is no byte of a job text. So no caller has to ask for the length.
 pub fn byte(text: &[u8], at: usize) -> u8
     ensures { λ r. ⌜ r ≡ byteAt (now (text .entry)) at ⌝ }

@@ -1,8 +1,8 @@
 // The marks of the needs of a text.
-use faults::sections::Section;
-use faults::sections::key_stands;
-use faults::sections::width;
 use job::rows::END_MARK;
+use naming::sections::Section;
+use naming::sections::key_stands;
+use naming::sections::width;
 use phrases::or_list;
 ghost use mathlib.Core.List.{List};
 ghost use Prim.Native.Nat.{ℕ};

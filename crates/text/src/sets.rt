@@ -1,10 +1,10 @@
 // The forbidden sets of a text.
 use columns::ColumnSet;
-use faults::sections::Section;
-use faults::sections::key_stands;
-use faults::sections::next_line;
-use faults::sections::width;
 use naming::known::column_in;
+use naming::sections::Section;
+use naming::sections::key_stands;
+use naming::sections::next_line;
+use naming::sections::width;
 use naming::signs::byte;
 use naming::signs::in_name;
 use naming::words::name_end;

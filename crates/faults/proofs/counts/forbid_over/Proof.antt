@@ -10,8 +10,9 @@ use Rattle.rules.specs.Names.{Spot}
 use Rattle.rules.specs.Texts.{Line, line}
 use Rattle.rules.specs.Sheets.{lineAfter}
 use Rattle.naming.specs.Words.{Rows}
-use Rattle.faults.specs.declared.sections.Section.the-variants.{Forbid}
-use Rattle.faults.proofs.Left.{key-inside, RowsLeft, row-here, row-next, row-end}
+use Rattle.naming.specs.declared.sections.Section.the-variants.{Forbid}
+use Rattle.naming.proofs.KeyPlaces.{key-inside}
+use Rattle.faults.proofs.Left.{RowsLeft, row-here, row-next, row-end}
 use Rattle.faults.proofs.Counted.{too-many, not-many, no-line-after, line-after, line-counted}
 use borrow.Author.Needs.{needs}
 use Rattle.faults.proofs.counts.forbid_over.Statement.{statement}

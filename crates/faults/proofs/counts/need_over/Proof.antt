@@ -11,8 +11,9 @@ use Rattle.rules.specs.Names.{Spot}
 use Rattle.rules.specs.Texts.{Line, line}
 use Rattle.naming.specs.Words.{Rows}
 use Rattle.faults.specs.Kinds.{rowsOver}
-use Rattle.faults.specs.declared.sections.Section.the-variants.{Need}
-use Rattle.faults.proofs.Left.{key-inside, RowsLeft, row-here, row-next, row-end}
+use Rattle.naming.specs.declared.sections.Section.the-variants.{Need}
+use Rattle.naming.proofs.KeyPlaces.{key-inside}
+use Rattle.faults.proofs.Left.{RowsLeft, row-here, row-next, row-end}
 use Rattle.faults.proofs.Counted.{too-many, not-many, no-row-over, row-over, row-refused, row-passed}
 use borrow.Author.Needs.{needs}
 use Rattle.faults.proofs.counts.need_over.Statement.{statement}

@@ -13,6 +13,9 @@ no-fault-requires c κs = search needs
 returns : tie.Need-returns
 returns c = λ sheet form at. absurd (omega (arith, end-inside form at, c .before .if1 .taken))
 
+width-requires : tie.Need-width-requires
+width-requires c κs = search needs
+
 add-at : tie.Need-add-at
 add-at c = search needs
 
@@ -23,12 +26,17 @@ no-fault-requires-2 : tie.Need-no-fault-requires-2
 no-fault-requires-2 c κs = search needs
 
 returns-2 : tie.Need-returns-2
-returns-2 c = λ sheet form at. c .no-fault2 .ensures ∙ end-same form at (c .before .before .before .number .ensures) (c .before .if2 .taken)
+returns-2 c =
+    let numbered = c .before .before .before in
+    λ sheet form at. c .no-fault2 .ensures
+    ∙ end-same form at (rw (numbered .before .before .width .ensures) at (numbered .number .ensures)) (c .before .if2 .taken)
 
 returns-3 : tie.Need-returns-3
 unfolding refusalIn
 returns-3 c =
-    λ sheet form at. end-other form at (c .before .before .number .ensures) (c .if2 .left)
+    let numbered = c .before .before in
+    λ sheet form at. rw (numbered .before .before .width .ensures)
+    (end-other form at (rw (numbered .before .before .width .ensures) at (numbered .number .ensures)) (c .if2 .left))
 
 pub end-fault-spec : {M : Type 1} → statement M
 end-fault-spec =
@@ -36,6 +44,7 @@ end-fault-spec =
     (tie.spec
     no-fault-requires
     returns
+    width-requires
     add-at
     number-requires
     no-fault-requires-2

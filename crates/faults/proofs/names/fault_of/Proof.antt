@@ -1,6 +1,7 @@
 -- `faults::names::fault_of` meets its contract. Assumes nothing.
 use mathlib.Core.Path.{sym, _∙_}
 use Rattle.rules.specs.Names.{spot}
+use Rattle.faults.specs.Refused.{numberIn}
 use Rattle.faults.proofs.Tested.{forbid-unknown, forbid-known}
 use borrow.Author.Needs.{needs}
 use Rattle.faults.proofs.names.fault_of.Statement.{statement}
@@ -35,6 +36,9 @@ returns c =
 repeated-requires-2 : tie.Need-repeated-requires-2
 repeated-requires-2 c κs = search needs
 
+enum-told-4 : tie.Need-enum-told-4
+enum-told-4 c = search needs
+
 returns-2 : tie.Need-returns-2
 returns-2 c = λ p q columns before w few b e run. rw (c .before .enum-told .given .1) (c .repeated .ensures p before b e run)
 
@@ -50,6 +54,10 @@ returns-4 c =
     (c .repeated2 .ensures p before b e run
     ∙ sym (forbid-known columns before (spot (a .text .now) (a .at) p) (t .unknown2 .ensures p q columns before w few run) (c .before .if1 .left)))
 
+returns-5 : tie.Need-returns-5
+unfolding numberIn
+returns-5 c = λ p q columns before w few b e run. rw (c .enum-told4 .given .1)
+
 pub fault-of-spec : {M : Type 1} → statement M
 fault-of-spec =
     tie.close
@@ -62,6 +70,8 @@ fault-of-spec =
     unknown-requires-2
     returns
     repeated-requires-2
+    enum-told-4
     returns-2
     returns-3
-    returns-4)
+    returns-4
+    returns-5)

@@ -9,8 +9,10 @@ use Rattle.rules.specs.Names.{Spot}
 use Rattle.rules.specs.Texts.{Line, line}
 use Rattle.rules.specs.Sheets.{linesFault}
 use Rattle.naming.specs.Words.{Words, Rows, columnsFrom}
-use Rattle.faults.specs.Kinds.{keyOf, faultBy}
-use Rattle.faults.proofs.Left.{key-inside, width-bounds, RowsLeft, row-here, row-next, row-end}
+use Rattle.naming.specs.Sections.{keyOf}
+use Rattle.faults.specs.Kinds.{faultBy}
+use Rattle.naming.proofs.KeyPlaces.{key-inside, width-bounds}
+use Rattle.faults.proofs.Left.{RowsLeft, row-here, row-next, row-end}
 use Rattle.faults.proofs.Tested.{line-faulty, line-right, no-line-faulty}
 use borrow.Author.Needs.{needs}
 use Rattle.faults.proofs.names.lines_fault.Statement.{statement}

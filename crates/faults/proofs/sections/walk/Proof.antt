@@ -7,8 +7,9 @@ use lib.ListN.{length}
 use Rattle.rules.specs.Names.{Spot}
 use Rattle.rules.specs.Texts.{Line}
 use Rattle.naming.specs.Words.{Rows}
-use Rattle.faults.specs.Kinds.{keyOf}
-use Rattle.faults.proofs.Left.{key-inside, RowsLeft, row-next, row-end}
+use Rattle.naming.specs.Sections.{keyOf}
+use Rattle.naming.proofs.KeyPlaces.{key-inside}
+use Rattle.faults.proofs.Left.{RowsLeft, row-next, row-end}
 use borrow.Author.Needs.{needs}
 use Rattle.faults.proofs.sections.walk.Statement.{statement}
 use Rattle.faults.proofs.sections.walk.Tie as tie

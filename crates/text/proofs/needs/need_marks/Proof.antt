@@ -7,8 +7,8 @@ use lib.ListN.{length, length-set}
 use Rattle.rules.specs.Marks.{endMark}
 use Rattle.rules.specs.Signs.{Says, needKey}
 use Rattle.rules.specs.Phrases.{ors, list}
-use Rattle.faults.specs.declared.sections.Section.the-variants.{Need}
-use Rattle.faults.proofs.Left.{key-inside}
+use Rattle.naming.specs.declared.sections.Section.the-variants.{Need}
+use Rattle.naming.proofs.KeyPlaces.{key-inside}
 use Rattle.phrases.specs.Readers.{Marked}
 use Rattle.text.proofs.MarksLaid.{Laying, laying-none, laying-asks, laying-room, laying-more, laying-done}
 use borrow.Author.Needs.{needs}
@@ -16,8 +16,8 @@ use Rattle.text.proofs.needs.need_marks.Statement.{statement}
 use Rattle.text.proofs.needs.need_marks.Tie as tie
 use Rattle.text.proofs.needs.need_marks.Reads as reads
 use Rattle.text.proofs.needs.need_marks.Lts as lts
-use Rattle.faults.proofs.sections.width.Reads as width-reads
-use Rattle.faults.proofs.sections.key_stands.Reads as key-stands-reads
+use Rattle.naming.proofs.sections.width.Reads as width-reads
+use Rattle.naming.proofs.sections.key_stands.Reads as key-stands-reads
 use Rattle.phrases.proofs.or_list.Reads as or-list-reads
 
 abbrev Inv-loop : tie.InvT-loop

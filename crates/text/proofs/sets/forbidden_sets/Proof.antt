@@ -10,8 +10,8 @@ use Rattle.rules.specs.Signs.{forbidKey}
 use Rattle.rules.specs.Names.{Spot}
 use Rattle.rules.specs.Texts.{Line}
 use Rattle.naming.specs.Words.{Words, Rows, columnsFrom}
-use Rattle.faults.specs.declared.sections.Section.the-variants.{Forbid}
-use Rattle.faults.proofs.Left.{key-inside}
+use Rattle.naming.specs.declared.sections.Section.the-variants.{Forbid}
+use Rattle.naming.proofs.KeyPlaces.{key-inside}
 use Rattle.text.proofs.SetLines.{SetsLeft, sets-none, sets-more, sets-end, sets-full}
 use borrow.Author.Needs.{needs}
 use Rattle.text.proofs.sets.forbidden_sets.Statement.{statement}

@@ -1,13 +1,12 @@
--- `faults::sections::next_line` meets its contract. Assumes nothing.
+-- `naming::sections::next_line` meets its contract. Assumes nothing.
 use mathlib.Core.Path.{ap}
 use Prim.Native.Nat.{ℕ, _+_}
 use native.Mathlib.Omega.{arith}
+use Rattle.naming.proofs.Walks.{ends-words}
+use Rattle.naming.proofs.KeyPlaces.{width-bounds, words-inside}
 use borrow.Author.Needs.{needs}
-use Rattle.naming.proofs.Walks.{ends-words}
-use Rattle.faults.proofs.Left.{width-bounds, words-inside}
-use borrow.Author.Needs.{needs}
-use Rattle.faults.proofs.sections.next_line.Statement.{statement}
-use Rattle.faults.proofs.sections.next_line.Tie as tie
+use Rattle.naming.proofs.sections.next_line.Statement.{statement}
+use Rattle.naming.proofs.sections.next_line.Tie as tie
 
 width-requires : tie.Need-width-requires
 width-requires c κs = search needs

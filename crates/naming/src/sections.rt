@@ -1,0 +1,72 @@
+// The sections of a job text: its kinds of lines, each told by the key that its lines begin with.
+use crate::known::COLUMNS_FROM;
+use crate::signs::byte;
+use crate::signs::stands;
+use crate::words::line_end;
+ghost use mathlib.Core.Path.{_≡_};
+ghost use mathlib.Core.Bool.{true, false};
+ghost use mathlib.Core.List.{List};
+ghost use Prim.Native.Nat.{ℕ, _+_, _<_, _≤_};
+ghost use lib.ListN.{length};
+ghost use Rattle.rules.specs.Signs.{byteAt, Says};
+ghost use Rattle.rules.specs.Names.{Spot};
+ghost use Rattle.naming.specs.Words.{Words};
+ghost use Rattle.naming.specs.Sections.{keyOf, widthOf};
+
+pub enum Section {
+    Columns,
+    Forbid,
+    Need,
+    End,
+}
+
+// How many bytes stand before the value of its lines.
+pub fn width(section: Section) -> usize
+    ensures { λ r. ⌜ r ≡ widthOf section ⌝ }
+{
+    match section {
+        Section::Columns => COLUMNS_FROM,
+        Section::Forbid => 7,
+        Section::Need => 5,
+        Section::End => 4,
+    }
+}
+
+// The byte at a place of its key; 0 past the end.
+pub fn key_byte(section: Section, at: usize) -> u8
+    ensures { λ r. ⌜ r ≡ byteAt (keyOf section) at ⌝ }
+{
+    match section {
+        Section::Columns => byte(b"columns=", at),
+        Section::Forbid => byte(b"forbid=", at),
+        Section::Need => byte(b"need=", at),
+        Section::End => byte(b"end=", at),
+    }
+}
+
+// Whether a line of the section begins at a place.
+pub fn key_stands(text: &[u8], section: Section, at: usize) -> bool
+    ensures there { λ r. ⌜ (r ≡ true → Says (now (text .entry)) at (keyOf section)) ⌝ }
+    ensures missing { λ r. ⌜ (r ≡ false → Says (now (text .entry)) at (keyOf section) → ⊥) ⌝ }
+{
+    match section {
+        Section::Columns => stands(text, at, b"columns="),
+        Section::Forbid => stands(text, at, b"forbid="),
+        Section::Need => stands(text, at, b"need="),
+        Section::End => stands(text, at, b"end="),
+    }
+}
+
+// The place behind the line of the section that begins at a place.
+pub fn next_line(text: &[u8], section: Section, at: usize) -> usize
+    requires { ⌜ at ≤ length (now text) ⌝ }
+    ensures later { λ r. ⌜ at < r ⌝ }
+    ensures is { λ r. ⌜ ((q : ℕ) (names : List Spot) → Words (now (text .entry)) (at + widthOf section) q names → r ≡ q + 1) ⌝ }
+{
+    let value = at + width(section);
+    // so that the sum can't overflow; never so in a text of the form
+    if text.len() < value {
+        return value;
+    }
+    line_end(text, value) + 1
+}
