@@ -45,6 +45,7 @@ pub mod MarkedNeeds
 pub mod SheetSets
 pub mod Sheets
 pub mod SheetNames
+pub mod Shifted
 pub mod Drawings
 pub mod Plannings
 pub mod SmallTable
