@@ -1,5 +1,5 @@
 -- What the searches of the judge find, one after the other, is the answer for the numbers. Assumes nothing.
-use mathlib.Core.Path.{_≡_, sym, ap, _∙_}
+use mathlib.Core.Path.{_≡_, sym, _∙_}
 use mathlib.Core.Bool.{false, not}
 use mathlib.Core.List.{List}
 use mathlib.Core.Option.{Option, none, some}
@@ -33,23 +33,20 @@ module _ (q : Numbers) (split : List ℕ) (job : Job) (known : jobOf q ≡ some 
   as-improper =
       sym (first-same (setUnfit (q .columns)) 0 (λ s. not (proper job s)) (λ s. unfit-improper job (q .columns) s (job-fit q job known .columns)) split)
 
-  as-forbidden : firstForbidden (job .forbidden) split ≡ firstForbidden (q .forbidden) split
-  as-forbidden = ap (λ (sets : List ℕ). firstForbidden sets split) (job-fit q job known .forbidden)
-
   pub answer-improper : (i : ℕ) → firstWhere (setUnfit (q .columns)) split ≡ some i → judged q split ≡ improper i
   answer-improper i e = judged-job q job split known ∙ says-improper job split i (as-improper ∙ e)
 
   module _ (proper : firstWhere (setUnfit (q .columns)) split ≡ none) where
-    pub answer-forbids : (p : Places) → firstForbidden (q .forbidden) split ≡ some p → judged q split ≡ forbids (p .i) (p .j)
-    answer-forbids p e = judged-job q job split known ∙ says-forbids job split (as-improper ∙ proper) p (as-forbidden ∙ e)
+    pub answer-forbids : (p : Places) → firstForbidden job split ≡ some p → judged q split ≡ forbids (p .i) (p .j)
+    answer-forbids p e = judged-job q job split known ∙ says-forbids job split (as-improper ∙ proper) p e
 
-    module _ (safe : firstForbidden (q .forbidden) split ≡ none) where
+    module _ (safe : firstForbidden job split ≡ none) where
       pub answer-shares : (p : Places) → firstSharing job split ≡ some p → judged q split ≡ shares (p .i) (p .j)
-      answer-shares p e = judged-job q job split known ∙ says-shares job split (as-improper ∙ proper) (as-forbidden ∙ safe) p e
+      answer-shares p e = judged-job q job split known ∙ says-shares job split (as-improper ∙ proper) safe p e
 
       module _ (unlinked : firstSharing job split ≡ none) where
         pub answer-unmet : (k : ℕ) → firstUnmet (job .needs) split ≡ some k → judged q split ≡ unmet k
-        answer-unmet k e = judged-job q job split known ∙ says-unmet job split (as-improper ∙ proper) (as-forbidden ∙ safe) unlinked k e
+        answer-unmet k e = judged-job q job split known ∙ says-unmet job split (as-improper ∙ proper) safe unlinked k e
 
         pub answer-right : firstUnmet (job .needs) split ≡ none → judged q split ≡ right
-        answer-right e = judged-job q job split known ∙ says-right job split (as-improper ∙ proper) (as-forbidden ∙ safe) unlinked e
+        answer-right e = judged-job q job split known ∙ says-right job split (as-improper ∙ proper) safe unlinked e

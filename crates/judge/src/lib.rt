@@ -32,8 +32,8 @@ pub fn judge(columns: usize, forbidden: &[u16], marks: &[u16], split: &[u16]) ->
     if let Found::At(i) = improper {
         return Verdict::Improper(i);
     }
-    let contained = pairs::first_forbidden(forbidden, split);
-    if let Pair::At(i, j) = contained {
+    let broken = pairs::first_forbidden(forbidden, split);
+    if let Pair::At(i, j) = broken {
         return Verdict::Forbids(i, j);
     }
     let shared = pairs::first_sharing(split);

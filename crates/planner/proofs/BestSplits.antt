@@ -1,6 +1,6 @@
 -- The best list of sets that serve all needs from all columns is the planner's split; where no list of as many sets as needs serves, no split is
 -- correct. Assumes nothing.
-use mathlib.Core.Path.{_≡_, refl, sym, ap, _∙_}
+use mathlib.Core.Path.{_≡_, refl, sym, ap, ap₂, _∙_}
 use mathlib.Core.Bool.{true, false}
 use mathlib.Core.List.{List, [], _∷_, List·Memᴰ}
 use Prim.Native.Nat.{ℕ, _+_, _^_, _≤_, _<_}
@@ -11,13 +11,14 @@ use lib.ListN.{length, getD}
 use borrow.Author.Tests.{ltb-true, lt-ltb}
 use Rattle.rules.specs.Sets.{has, full, size}
 use Rattle.rules.specs.Needs.{Need, column, meets}
-use Rattle.rules.specs.Jobs.{Job, safe}
+use Rattle.rules.specs.Jobs.{Job, allowed}
 use Rattle.rules.specs.Conditions.{gain}
 use Rattle.rules.specs.Splits.{proper, met, correct}
 use Rattle.rules.specs.Plans.{rising, cost, rank, notAfter, Planned}
 use Rattle.rules.proofs.Lists.{not-holds, every-in, every-all, any-one, any-in, getD-in, in-getD}
 use Rattle.rules.proofs.SetBits.{has-below, below-most, full-within, has-full}
 use Rattle.rules.proofs.Sets.{has-contains, contains-le}
+use Rattle.rules.proofs.Jobs.{price-size}
 use Rattle.rules.proofs.Splits.{Parts, proper-means, means-proper, correct-parts, parts-correct}
 use Rattle.rules.proofs.Orders.{ahead-smaller, ahead-same, notAfter-antisym}
 use Rattle.rules.proofs.Rising.{length-rising, cost-rising, correct-rising, rising-first}
@@ -25,14 +26,14 @@ use Rattle.rules.proofs.Plans.{plan-planned, plan-exists}
 use Rattle.rules.proofs.Useful.{planned-few}
 use Rattle.parts.specs.Parts.{Inside}
 use Rattle.searching.specs.Serving.{Serves, total, Least, First}
-use Rattle.planner.proofs.Gains.{gained-need, need-gained, gains-safe, gains-columns}
+use Rattle.planner.proofs.Gains.{gained-need, need-gained, gains-allowed, gains-columns}
 use Rattle.planner.proofs.ServingSplits.{MetBy, serves-inside, serves-unlinked, serves-met, idle-spared, made-serves}
 
 -- a set costs as much as it has columns
 pub total-cost : (job : Job) (split : List ℕ) → total size split ≡ cost job split
 unfolding total cost
 total-cost job [] = refl
-total-cost job (s ∷ split) = ap (λ (c : ℕ). size s + c) (total-cost job split)
+total-cost job (s ∷ split) = ap₂ _+_ (sym (price-size job s)) (total-cost job split)
 
 -- ---- all columns, all needs
 
@@ -75,7 +76,7 @@ module _ (job : Job) (fewColumns : job .columns ≤ 16) (fewNeeds : length (job 
             found .0,
             found .1,
             ap (has i) (valued (found .0) (below (found .0) (found .1)))
-                ∙ need-gained job i (found .0) l (found .2) (every-in (safe job) (p .safe) (found .1)),
+                ∙ need-gained job i (found .0) l (found .2) (every-in (allowed job) (p .allowed) (found .1)),
           )
 
   -- "each need is true of at least one extract"
@@ -111,7 +112,7 @@ module _ (job : Job) (fewColumns : job .columns ≤ 16) (fewNeeds : length (job 
     first-right =
         parts-correct job split (record {
           proper = every-all (proper job) split (λ s m. means-proper job s (gains-columns job s (gains s m)) (all-inside (job .columns) s (inside s m)));
-          safe = every-all (safe job) split (λ s m. gains-safe job s (gains s m));
+          allowed = every-all (allowed job) split (λ s m. gains-allowed job s (gains s m));
           unlinked = serves-unlinked value job split (allColumns job) (allNeeds job) (f .serves);
           met = every-all (met split) (job .needs) (serves-needs split (f .serves));
         })

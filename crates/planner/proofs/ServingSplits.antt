@@ -10,6 +10,7 @@ use Rattle.rules.specs.Sets.{has, without}
 use Rattle.rules.specs.Jobs.{Job, unlinked}
 use Rattle.rules.specs.Splits.{allUnlinked}
 use Rattle.rules.proofs.Lists.{and-parts, and-both, holds-fails, every-in, every-all}
+use Rattle.rules.proofs.Jobs.{unlinked-apart, unlinked-means}
 use Rattle.rules.proofs.SetBits.{has-empty}
 use Rattle.rules.proofs.Sets.{has-contains, has-apart, without-below}
 use Rattle.rules.proofs.Differences.{left-has, has-left, contains-without, left-apart, apart-left, left-whole, within-empty}
@@ -32,12 +33,12 @@ module _ (value : ℕ → ℕ) where
       inside-rest free t s (serves-inside split (without free t) (without unmet (value t)) (e .1) s m)
 
   pub serves-unlinked : (job : Job) (split : List ℕ) (free unmet : ℕ) → Serves value free unmet split → allUnlinked job split ≡ true
-  unfolding Serves allUnlinked unlinked
+  unfolding Serves allUnlinked
   serves-unlinked job [] free unmet e = refl
   serves-unlinked job (s ∷ split) free unmet e =
       and-both (every (unlinked job s) split) (allUnlinked job split)
       (every-all (unlinked job s) split λ t m.
-      left-apart free s t (serves-inside split (without free s) (without unmet (value s)) (e .1) t m .within))
+      unlinked-apart job s t ∙ left-apart free s t (serves-inside split (without free s) (without unmet (value s)) (e .1) t m .within))
       (serves-unlinked job split (without free s) (without unmet (value s)) (e .1))
 
   pub serves-met : (split : List ℕ) (free unmet : ℕ) → Serves value free unmet split → (i : ℕ) → i < 16 → has i unmet ≡ true → MetBy split i
@@ -78,7 +79,7 @@ module _ (value : ℕ → ℕ) where
 
   pub made-serves : (job : Job) (split : List ℕ) (free unmet : ℕ) → unmet < 2 ^ 16 → ((s : ℕ) → List·Memᴰ s split → Inside free s)
       → allUnlinked job split ≡ true → ((i : ℕ) → i < 16 → has i unmet ≡ true → MetBy split i) → Serves value free unmet split
-  unfolding Serves allUnlinked unlinked
+  unfolding Serves allUnlinked
   made-serves job [] free unmet b inside links met =
       within-empty unmet b (has-contains 0 unmet (λ i l h. elim (met i l h .1) [ ]))
   made-serves job (s ∷ split) free unmet b inside links met = (
@@ -91,7 +92,7 @@ module _ (value : ℕ → ℕ) where
       parts = and-parts (every (unlinked job s) split) (allUnlinked job split) links
 
       left : (t : ℕ) → List·Memᴰ t split → Inside free t → Inside (without free s) t
-      left t m i = record { small = i .small; within = apart-left free s t (i .within) (every-in (unlinked job s) (parts .0) m) }
+      left t m i = record { small = i .small; within = apart-left free s t (i .within) (unlinked-means job s t (every-in (unlinked job s) (parts .0) m)) }
 
       later : (i : ℕ) → has i (value s) ≡ false → MetBy (s ∷ split) i → MetBy split i
       later i n (t, List·Memᴰ·head q, h) = holds-fails (has i (value t)) h (ap (λ (x : ℕ). has i (value x)) q ∙ n)

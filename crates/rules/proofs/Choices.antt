@@ -8,7 +8,7 @@ use Prim.Native.Nat.{ℕ, zero, suc, _-_, _≤_, _<_, _^_}
 use native.Mathlib.Decide.{ℕ-discrete}
 use native.Mathlib.Omega.{arith}
 use Rattle.rules.specs.Lists.{every, keep, upFrom}
-use Rattle.rules.specs.Jobs.{Job, safe, unlinked}
+use Rattle.rules.specs.Jobs.{Job, allowed, unlinked}
 use Rattle.rules.specs.Splits.{proper, allUnlinked, correct}
 use Rattle.rules.specs.Plans.{rising, choices, splits}
 use Rattle.rules.proofs.Lists.{and-parts, every-in, every-all, keep-in, in-keep, in-upFrom, upFrom-in}
@@ -137,21 +137,21 @@ module _ (job : Job) where
   unfolding splits
   split-correct split m =
       let k = in-keep (correct job) split _ m in
-      (k .1, rises-written (choices-chosen (keep-rises (safe job) (upFrom-rises 1 (2 ^ job .columns - 1))) [] split (k .0) .rises))
+      (k .1, rises-written (choices-chosen (keep-rises (allowed job) (upFrom-rises 1 (2 ^ job .columns - 1))) [] split (k .0) .rises))
 
   pub correct-split : (split : List ℕ) → job .columns ≤ 16 → correct job split ≡ true → List·Memᴰ (rising split) (splits job)
   unfolding splits
   correct-split split h e =
       let p = correct-parts job split e in
       keep-in (correct job)
-      (choosable-choices (keep-rises (safe job) (upFrom-rises 1 (2 ^ job .columns - 1))) [] (rising split) (record {
+      (choosable-choices (keep-rises (allowed job) (upFrom-rises 1 (2 ^ job .columns - 1))) [] (rising split) (record {
         own = record { rises = correct-rises job split h (p .proper) (p .unlinked); from = λ t m. candidate t (rising-in t split m) p };
         apart = unlinked-rising job split ∙ p .unlinked;
         free = λ k t i m. absurd (List·Memᴰ·not-nil i);
       }))
       (correct-rising job split ∙ e)
     where
-      candidate : (t : ℕ) → List·Memᴰ t split → Parts job split → List·Memᴰ t (keep (safe job) (upFrom 1 (2 ^ job .columns - 1)))
+      candidate : (t : ℕ) → List·Memᴰ t split → Parts job split → List·Memᴰ t (keep (allowed job) (upFrom 1 (2 ^ job .columns - 1)))
       candidate t m p =
           let q = proper-means job t (every-in (proper job) (p .proper) m) in
-          keep-in (safe job) (upFrom-in 1 (2 ^ job .columns - 1) t (omega arith) (omega arith)) (every-in (safe job) (p .safe) m)
+          keep-in (allowed job) (upFrom-in 1 (2 ^ job .columns - 1) t (omega arith) (omega arith)) (every-in (allowed job) (p .allowed) m)

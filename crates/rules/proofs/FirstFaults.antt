@@ -8,9 +8,9 @@ use native.Mathlib.Omega.{arith}
 use lib.Dec.{eqb}
 use lib.ListN.{length, getD}
 use Rattle.rules.specs.Lists.{firstWhere}
-use Rattle.rules.specs.Sets.{contains, apart, within}
+use Rattle.rules.specs.Sets.{within}
 use Rattle.rules.specs.Needs.{Need, meets}
-use Rattle.rules.specs.Jobs.{Job, unlinked}
+use Rattle.rules.specs.Jobs.{Job, breaks, unlinked}
 use Rattle.rules.specs.Numbers.{setUnfit}
 use Rattle.rules.specs.Splits.{proper, met}
 use Rattle.rules.specs.Verdicts.{improper, forbids, shares, unmet, right}
@@ -20,32 +20,28 @@ use Rattle.rules.proofs.Searches.{NoneBefore, first-found, nothing-foun
 
 -- ---- extract i contains forbidden set j
 
-module _ (forbidden : List ℕ) where
-  -- the extracts before i contain no forbidden set
+module _ (job : Job) where
+  -- the extracts before i break no forbidden set
   abbrev pub SafeBefore : List ℕ → ℕ → Type 0
-  SafeBefore split i = (k : ℕ) → k < i → firstWhere (contains (getD split k 0)) forbidden ≡ none
+  SafeBefore split i = (k : ℕ) → k < i → firstWhere (breaks job (getD split k 0)) (job .forbidden) ≡ none
 
-  pub forbidden-found : (split : List ℕ) (i j : ℕ) → i < length split → SafeBefore split i → firstWhere (contains (getD split i 0)) forbidden ≡ some j
-      → firstForbidden forbidden split ≡ some (record { i = i; j = j })
+  pub forbidden-found : (split : List ℕ) (i j : ℕ) → i < length split → SafeBefore split i
+      → firstWhere (breaks job (getD split i 0)) (job .forbidden) ≡ some j → firstForbidden job split ≡ some (record { i = i; j = j })
   unfolding firstForbidden orElse
   forbidden-found [] i j h before e = absurd (omega arith)
   forbidden-found (s ∷ split) zero j h before e = rw e
   forbidden-found (s ∷ split) (suc i) j h before e =
-      let here : firstWhere (contains s) forbidden ≡ none = before 0 (omega arith) in
+      let here : firstWhere (breaks job s) (job .forbidden) ≡ none = before 0 (omega arith) in
       rw (here, forbidden-found split i j (omega arith) (λ k l. before (suc k) (omega arith)) e)
 
-  pub forbidden-nothing : (split : List ℕ) → SafeBefore split (length split) → firstForbidden forbidden split ≡ none
+  pub forbidden-nothing : (split : List ℕ) → SafeBefore split (length split) → firstForbidden job split ≡ none
   unfolding firstForbidden orElse
   forbidden-nothing [] before = refl
   forbidden-nothing (s ∷ split) before =
-      let here : firstWhere (contains s) forbidden ≡ none = before 0 (omega arith) in
+      let here : firstWhere (breaks job s) (job .forbidden) ≡ none = before 0 (omega arith) in
       rw (here, forbidden-nothing split (λ k l. before (suc k) (omega arith)))
 
 -- ---- extracts i and j, i below j, share a column
-
-pub unlinked-apart : (job : Job) (s t : ℕ) → unlinked job s t ≡ apart s t
-unfolding unlinked
-unlinked-apart job s t = refl
 
 module _ (job : Job) where
   -- extract i shares no column with a later one before j
@@ -100,11 +96,11 @@ module _ (job : Job) (split : List ℕ) where
   says-improper i e = rw e
 
   module _ (properAll : firstImproper job split ≡ none) where
-    pub says-forbids : (p : Places) → firstForbidden (job .forbidden) split ≡ some p → verdict job split ≡ forbids (p .i) (p .j)
+    pub says-forbids : (p : Places) → firstForbidden job split ≡ some p → verdict job split ≡ forbids (p .i) (p .j)
     unfolding verdict firstFault orElse
     says-forbids p e = rw (properAll, e)
 
-    module _ (safeAll : firstForbidden (job .forbidden) split ≡ none) where
+    module _ (safeAll : firstForbidden job split ≡ none) where
       pub says-shares : (p : Places) → firstSharing job split ≡ some p → verdict job split ≡ shares (p .i) (p .j)
       unfolding verdict firstFault orElse
       says-shares p e = rw (properAll, safeAll, e)

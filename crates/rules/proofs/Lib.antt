@@ -11,6 +11,7 @@ pub mod SetColumns
 pub mod Needs
 pub mod Numbers
 pub mod Marks
+pub mod Jobs
 pub mod Conditions
 pub mod Splits
 pub mod Orders

@@ -15,8 +15,8 @@ use Rattle.rules.specs.Names.{mostNameBytes}
 use Rattle.rules.specs.Jobs.{Job}
 use Rattle.rules.specs.Numbers.{jobOf}
 use Rattle.rules.specs.Refusals.{textTooLong, textNotOfForm, noCorrectSplit}
-use Rattle.rules.specs.Splits.{proper, correct}
-use Rattle.rules.specs.Plans.{cost, plan}
+use Rattle.rules.specs.Splits.{proper, correct, columnsIn}
+use Rattle.rules.specs.Plans.{plan}
 use Rattle.rules.specs.Plannings.{planRoom}
 use Rattle.rules.specs.Texts.{Sheet, OfForm}
 use Rattle.rules.specs.Sheets.{Refusal, sheetFault, numbersOf, namesOf}
@@ -29,7 +29,7 @@ use Rattle.rules.proofs.SetBits.{below-most}
 use Rattle.rules.proofs.Splits.{proper-means, correct-parts}
 use Rattle.rules.proofs.Plans.{plan-planned}
 use Rattle.rules.proofs.Useful.{planned-few}
-use Rattle.rules.proofs.SplitSizes.{size-more, cost-few}
+use Rattle.rules.proofs.SplitSizes.{size-more, columns-few}
 use Rattle.rules.proofs.Readings.{reading-taken, reading-refused, refused-numbers, refused-place}
 use Rattle.rules.proofs.Sheets.{sheet-job}
 use Rattle.rules.proofs.SheetNames.{names-short}
@@ -196,8 +196,8 @@ module _ (names : List (List ℕ)) (short : (i : ℕ) → length (getD names i [
       omega (arith, length-append (getD names i []) (behindCommas (namesAt names columns)), short i, commas-fit columns)
 
   module _ (job : Job) (few : job .columns ≤ 16) where
-    lines-fit : (split : List ℕ) → every (proper job) split ≡ true → length (extractLines names split) ≤ 8 * length split + 13 * cost job split
-    unfolding extractLines every cost size
+    lines-fit : (split : List ℕ) → every (proper job) split ≡ true → length (extractLines names split) ≤ 8 * length split + 13 * columnsIn split
+    unfolding extractLines every columnsIn size
     lines-fit [] e = omega arith
     lines-fit (s ∷ split) e =
         let both = and-parts (proper job s) (every (proper job) split) e in
@@ -217,7 +217,7 @@ module _ (names : List (List ℕ)) (short : (i : ℕ) → length (getD names i [
         let b = keyedLine-length "extracts=" (decimal (length split)) in
         let c = decimal-length 0 (length split) (omega arith) in
         let d = lines-fit split (correct-parts job split e .proper) in
-        let f = cost-few job split few e in
+        let f = columns-few job split few e in
         omega (
           arith,
           length-append (keyedLine "result=" (bytes "split")) (keyedLine "extracts=" (decimal (length split)) ++ extractLines names split),

@@ -10,13 +10,14 @@ use lib.ListN.{length}
 use lib.Pow.{pow-mono}
 use borrow.Author.Tests.{leb-true, leb-false, le-leb}
 use Rattle.rules.specs.Lists.{every, anyOf}
-use Rattle.rules.specs.Sets.{apart, size}
+use Rattle.rules.specs.Sets.{apart}
 use Rattle.rules.specs.Needs.{Need, meets}
-use Rattle.rules.specs.Jobs.{Job, safe, unlinked}
+use Rattle.rules.specs.Jobs.{Job, allowed, unlinked, price}
 use Rattle.rules.specs.Splits.{proper, allUnlinked, met, correct}
 use Rattle.rules.specs.Plans.{putIn, rising, cost, notAfter}
 use Rattle.rules.proofs.Lists.{and-parts, every-in}
-use Rattle.rules.proofs.Sets.{apart-sym, apart-differ}
+use Rattle.rules.proofs.Sets.{apart-differ}
+use Rattle.rules.proofs.Jobs.{unlinked-sym, unlinked-means}
 use Rattle.rules.proofs.Splits.{proper-means}
 use Rattle.rules.proofs.Orders.{ahead-smaller, ahead-same}
 
@@ -58,7 +59,7 @@ length-rising = gather-rising length (λ s n. suc n) (λ s split. refl) (λ s t 
 
 pub cost-rising : (job : Job) (split : List ℕ) → cost job (rising split) ≡ cost job split
 unfolding cost
-cost-rising job = gather-rising (cost job) (λ s n. size s + n) (λ s split. refl) (λ s t n. omega arith)
+cost-rising job = gather-rising (cost job) (λ s n. price job s + n) (λ s split. refl) (λ s t n. omega arith)
 
 every-putIn : (p : ℕ → Bool) (s : ℕ) (split : List ℕ) → every p (putIn s split) ≡ (p s && every p split)
 unfolding every
@@ -71,10 +72,6 @@ every-rising p = gather-rising (every p) (λ s b. p s && b) (λ s split. refl) (
 pub any-rising : (p : ℕ → Bool) (split : List ℕ) → anyOf p (rising split) ≡ anyOf p split
 unfolding anyOf
 any-rising p = gather-rising (anyOf p) (λ s b. p s || b) (λ s split. refl) (λ s t b. or-swap (p s) (p t) b)
-
-unlinked-sym : (job : Job) (s t : ℕ) → unlinked job s t ≡ unlinked job t s
-unfolding unlinked
-unlinked-sym job s t = apart-sym s t
 
 unlinked-putIn : (job : Job) (s : ℕ) (split : List ℕ) → allUnlinked job (putIn s split) ≡ allUnlinked job (s ∷ split)
 unfolding putIn allUnlinked every
@@ -101,7 +98,7 @@ met-rising split = fun-ext (λ (v : Need). any-rising (meets v) split)
 pub correct-rising : (job : Job) (split : List ℕ) → correct job (rising split) ≡ correct job split
 unfolding correct
 correct-rising job split =
-    rw (every-rising (proper job) split, every-rising (safe job) split, unlinked-rising job split, met-rising split)
+    rw (every-rising (proper job) split, every-rising (allowed job) split, unlinked-rising job split, met-rising split)
 
 -- ---- numbers that rise
 
@@ -172,7 +169,7 @@ putIn-rises s (next {s = r} {split} g n) f = go (leb s r) refl (putIn-rises s n 
 -- extracts that share no column are different numbers
 pub correct-rises : (job : Job) (split : List ℕ) → job .columns ≤ 16 → every (proper job) split ≡ true → allUnlinked job split ≡ true
     → Rises (rising split)
-unfolding rising every allUnlinked unlinked
+unfolding rising every allUnlinked
 correct-rises job [] h p u = none
 correct-rises job (s ∷ split) h p u =
     let here = and-parts (proper job s) (every (proper job) split) p in
@@ -183,7 +180,7 @@ correct-rises job (s ∷ split) h p u =
     different : (t : ℕ) → proper job s ≡ true → unlinked job s t ≡ true → s ≡ t → ⊥
     different t q l e =
         let r = proper-means job s q in
-        let z : s ≡ 0 = apart-differ s (omega (arith, pow-mono {i = job .columns} {j = 16} h)) (ap (apart s) e ∙ l) in
+        let z : s ≡ 0 = apart-differ s (omega (arith, pow-mono {i = job .columns} {j = 16} h)) (ap (apart s) e ∙ unlinked-means job s t l) in
         omega arith
 
 -- ---- rising numbers come first

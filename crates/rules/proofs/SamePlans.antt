@@ -1,21 +1,21 @@
 -- Two jobs over equal columns that the same splits are correct for have the same planner's split. Assumes nothing.
-use mathlib.Core.Path.{_≡_, refl, sym, ap, _∙_}
+use mathlib.Core.Path.{_≡_, refl, sym, ap₂, _∙_}
 use mathlib.Core.List.{List, [], _∷_}
 use mathlib.Core.Option.{Option, none, some}
 use Prim.Native.Nat.{ℕ, _+_, _≤_}
-use Rattle.rules.specs.Sets.{size}
 use Rattle.rules.specs.Jobs.{Job}
 use Rattle.rules.specs.Splits.{correct}
 use Rattle.rules.specs.Plans.{cost, rank, plan}
 use Rattle.rules.proofs.Lists.{not-holds}
+use Rattle.rules.proofs.Jobs.{price-size}
 use Rattle.rules.proofs.Plans.{plan-planned, plan-none, planned-plan, none-plan}
 
 module _ (first second : Job) where
-  -- the columns in all are those of the extracts, whatever the job asks
+  -- extracts cost the same, whatever the job asks
   cost-same : (split : List ℕ) → cost first split ≡ cost second split
   unfolding cost
   cost-same [] = refl
-  cost-same (s ∷ split) = ap (λ (n : ℕ). size s + n) (cost-same split)
+  cost-same (s ∷ split) = ap₂ _+_ (price-size first s ∙ sym (price-size second s)) (cost-same split)
 
   rank-same : (split : List ℕ) → rank first split ≡ rank second split
   unfolding rank

@@ -9,13 +9,13 @@ use lib.Pow.{pow-pos}
 use Rattle.rules.specs.Lists.{every}
 use Rattle.rules.specs.Sets.{has, apart, size, union}
 use Rattle.rules.specs.Jobs.{Job, unlinked}
-use Rattle.rules.specs.Splits.{proper, allUnlinked, correct}
-use Rattle.rules.specs.Plans.{cost}
+use Rattle.rules.specs.Splits.{proper, allUnlinked, correct, columnsIn}
 use Rattle.rules.proofs.Lists.{and-parts, or-none, every-in, every-all}
 use Rattle.rules.proofs.SetBits.{below-most}
 use Rattle.rules.proofs.Sets.{contains-empty, apart-column, has-apart, apart-empty, apart-sym, has-union, union-within}
 use Rattle.rules.proofs.SetSizes.{size-some, size-empty, size-le, size-union-apart}
 use Rattle.rules.proofs.SetColumns.{same-or-lacks}
+use Rattle.rules.proofs.Jobs.{unlinked-means}
 use Rattle.rules.proofs.Splits.{proper-means, correct-parts}
 
 -- a set that is not 0 has a column
@@ -33,26 +33,25 @@ union-apart s t u a c =
 
 module _ (job : Job) (few : job .columns ≤ 16) where
   -- the columns of a set and of extracts that share none with it or with each other
-  cost-with : (u : ℕ) (split : List ℕ) → u < 2 ^ job .columns → every (proper job) split ≡ true → every (unlinked job u) split ≡ true
-      → allUnlinked job split ≡ true → size u + cost job split ≤ job .columns
-  unfolding cost every allUnlinked unlinked
-  cost-with u [] b right free apart = omega (arith, size-le (job .columns) u few b)
-  cost-with u (s ∷ split) b right free apart =
+  columns-with : (u : ℕ) (split : List ℕ) → u < 2 ^ job .columns → every (proper job) split ≡ true → every (apart u) split ≡ true
+      → allUnlinked job split ≡ true → size u + columnsIn split ≤ job .columns
+  unfolding columnsIn every allUnlinked
+  columns-with u [] b right free links = omega (arith, size-le (job .columns) u few b)
+  columns-with u (s ∷ split) b right free links =
       let rights = and-parts _ _ right in
       let frees = and-parts _ _ free in
-      let aparts = and-parts _ _ apart in
+      let linked = and-parts _ _ links in
       let c = proper-means job s (rights .0) .1 in
       let e = size-union-apart u s (below-most (job .columns) u few b) (below-most (job .columns) s few c) (frees .0) in
-      let next = every-all (unlinked job (union u s)) split (λ t m.
-      union-apart u s t (every-in (unlinked job u) (frees .1) m) (every-in (unlinked job s) (aparts .0) m)) in
-      let rest = cost-with (union u s) split (union-within (job .columns) u s few b c) (rights .1) next (aparts .1) in
+      let next = every-all (apart (union u s)) split (λ t m.
+      union-apart u s t (every-in (apart u) (frees .1) m) (unlinked-means job s t (every-in (unlinked job s) (linked .0) m))) in
+      let rest = columns-with (union u s) split (union-within (job .columns) u s few b c) (rights .1) next (linked .1) in
       omega arith
 
 -- extracts of a correct split share no column, so together they have at most as many columns as there are
-pub cost-few : (job : Job) (split : List ℕ) → job .columns ≤ 16 → correct job split ≡ true → cost job split ≤ job .columns
-unfolding unlinked
-cost-few job split few e =
+pub columns-few : (job : Job) (split : List ℕ) → job .columns ≤ 16 → correct job split ≡ true → columnsIn split ≤ job .columns
+columns-few job split few e =
     let parts = correct-parts job split e in
-    let free = every-all (unlinked job 0) split (λ s m. apart-sym 0 s ∙ apart-empty s) in
-    let all = cost-with job few 0 split (pow-pos (job .columns)) (parts .proper) free (parts .unlinked) in
+    let free = every-all (apart 0) split (λ s m. apart-sym 0 s ∙ apart-empty s) in
+    let all = columns-with job few 0 split (pow-pos (job .columns)) (parts .proper) free (parts .unlinked) in
     omega (arith, size-empty)

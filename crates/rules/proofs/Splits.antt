@@ -1,5 +1,5 @@
 -- The test of a correct split and the sentence it stands for agree; the order of the extracts is no matter. Assumes nothing.
-use mathlib.Core.Path.{_≡_, refl, ap}
+use mathlib.Core.Path.{_≡_, refl, sym, ap, _∙_}
 use mathlib.Core.Bool.{true, false, not, _&&_}
 use mathlib.Core.List.{List, [], _∷_, List·Memᴰ}
 use Prim.Native.Nat.{ℕ, zero, suc, _<_, _^_}
@@ -7,12 +7,12 @@ use native.Mathlib.Omega.{arith}
 use lib.Dec.{eqb, ltb}
 use lib.ListN.{length, getD}
 use borrow.Author.Tests.{eqb-false, ne-eqb, ltb-true, lt-ltb, not-true}
-use Rattle.rules.specs.Lists.{every, anyOf}
-use Rattle.rules.specs.Sets.{contains}
+use Rattle.rules.specs.Lists.{every}
 use Rattle.rules.specs.Needs.{meets}
-use Rattle.rules.specs.Jobs.{Job, safe, unlinked}
+use Rattle.rules.specs.Jobs.{Job, breaks, allowed, unlinked}
 use Rattle.rules.specs.Splits.{Correct, proper, allUnlinked, met, correct}
-use Rattle.rules.proofs.Lists.{and-parts, and-both, every-in, every-all, any-one, any-in, not-any-in, not-any-all, getD-in, in-getD}
+use Rattle.rules.proofs.Lists.{and-parts, and-both, every-in, every-all, any-one, any-in, getD-in, in-getD}
+use Rattle.rules.proofs.Jobs.{safe-means, means-safe, allowed-safe}
 
 module _ (job : Job) where
   -- ---- each part of the sentence
@@ -28,13 +28,11 @@ module _ (job : Job) where
   unfolding proper
   means-proper s p l = and-both (not (eqb s 0)) (ltb s (2 ^ job .columns)) (ap not (ne-eqb s 0 (λ e. omega arith))) (lt-ltb s (2 ^ job .columns) l)
 
-  pub safe-means : (s f : ℕ) → safe job s ≡ true → List·Memᴰ f (job .forbidden) → contains s f ≡ false
-  unfolding safe
-  safe-means s f e m = not-any-in (contains s) (not-true (anyOf (contains s) (job .forbidden)) e) m
+  pub allowed-means : (s f : ℕ) → allowed job s ≡ true → List·Memᴰ f (job .forbidden) → breaks job s f ≡ false
+  allowed-means s f e m = safe-means job s f (sym (allowed-safe job s) ∙ e) m
 
-  pub means-safe : (s : ℕ) → ((f : ℕ) → List·Memᴰ f (job .forbidden) → contains s f ≡ false) → safe job s ≡ true
-  unfolding safe
-  means-safe s g = ap not (not-any-all (contains s) (job .forbidden) g)
+  pub means-allowed : (s : ℕ) → ((f : ℕ) → List·Memᴰ f (job .forbidden) → breaks job s f ≡ false) → allowed job s ≡ true
+  means-allowed s g = allowed-safe job s ∙ means-safe job s g
 
   unlinked-places : (split : List ℕ) → allUnlinked job split ≡ true
       → (i j : ℕ) → i < j → j < length split → unlinked job (getD split i 0) (getD split j 0) ≡ true
@@ -60,21 +58,21 @@ module _ (job : Job) where
   -- the four parts of the test
   pub record Parts (split : List ℕ) : Type 0 where
     pub proper : every (proper job) split ≡ true
-    pub safe : every (safe job) split ≡ true
+    pub allowed : every (allowed job) split ≡ true
     pub unlinked : allUnlinked job split ≡ true
     pub met : every (met split) (job .needs) ≡ true
 
   pub correct-parts : (split : List ℕ) → correct job split ≡ true → Parts split
   unfolding correct
   correct-parts split e =
-      let a = and-parts (every (proper job) split) (every (safe job) split && (allUnlinked job split && every (met split) (job .needs))) e in
-      let b = and-parts (every (safe job) split) (allUnlinked job split && every (met split) (job .needs)) (a .1) in
+      let a = and-parts (every (proper job) split) (every (allowed job) split && (allUnlinked job split && every (met split) (job .needs))) e in
+      let b = and-parts (every (allowed job) split) (allUnlinked job split && every (met split) (job .needs)) (a .1) in
       let c = and-parts (allUnlinked job split) (every (met split) (job .needs)) (b .1) in
-      record { proper = a .0; safe = b .0; unlinked = c .0; met = c .1 }
+      record { proper = a .0; allowed = b .0; unlinked = c .0; met = c .1 }
 
   pub parts-correct : (split : List ℕ) → Parts split → correct job split ≡ true
   unfolding correct
-  parts-correct split p = and-both _ _ (p .proper) (and-both _ _ (p .safe) (and-both _ _ (p .unlinked) (p .met)))
+  parts-correct split p = and-both _ _ (p .proper) (and-both _ _ (p .allowed) (and-both _ _ (p .unlinked) (p .met)))
 
   pub correct-means : (split : List ℕ) → correct job split ≡ true → Correct job split
   unfolding met
@@ -82,7 +80,7 @@ module _ (job : Job) where
       let p = correct-parts split e in
       record {
         proper = λ s m. proper-means s (every-in (proper job) (p .proper) m);
-        confidential = λ s f m n. safe-means s f (every-in (safe job) (p .safe) m) n;
+        confidential = λ s f m n. allowed-means s f (every-in (allowed job) (p .allowed) m) n;
         visible = λ v m. any-one (meets v) split (every-in (met split) (p .met) m);
         unlinkable = unlinked-places split (p .unlinked);
       }
@@ -92,7 +90,7 @@ module _ (job : Job) where
   means-correct split c =
       parts-correct split (record {
         proper = every-all (proper job) split (λ s m. means-proper s (c .proper s m .0) (c .proper s m .1));
-        safe = every-all (safe job) split (λ s m. means-safe s (λ f n. c .confidential s f m n));
+        allowed = every-all (allowed job) split (λ s m. means-allowed s (λ f n. c .confidential s f m n));
         unlinked = places-unlinked split (c .unlinkable);
         met = every-all (met split) (job .needs) (λ v m. any-in (meets v) (c .visible v m .1) (c .visible v m .2));
       })

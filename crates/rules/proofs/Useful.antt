@@ -9,7 +9,7 @@ use lib.ListN.{length}
 use borrow.Author.Tests.{not-true}
 use Rattle.rules.specs.Lists.{every, anyOf, keep}
 use Rattle.rules.specs.Needs.{Need, meets}
-use Rattle.rules.specs.Jobs.{Job, safe, unlinked}
+use Rattle.rules.specs.Jobs.{Job, allowed, unlinked}
 use Rattle.rules.specs.Splits.{proper, allUnlinked, met, correct}
 use Rattle.rules.specs.Plans.{Planned}
 use Rattle.rules.proofs.Lists.{and-parts, and-both, every-in, every-all, any-in, not-any-in, or-right, keep-in, in-keep, keep-fewer}
@@ -109,7 +109,7 @@ useful-correct job split e =
     let u = useful (job .needs) split in
     parts-correct job u (record {
       proper = every-all (proper job) u (λ t m. every-in (proper job) (p .proper) (useful-in (job .needs) t split m));
-      safe = every-all (safe job) u (λ t m. every-in (safe job) (p .safe) (useful-in (job .needs) t split m));
+      allowed = every-all (allowed job) u (λ t m. every-in (allowed job) (p .allowed) (useful-in (job .needs) t split m));
       unlinked = useful-unlinked job (job .needs) split (p .unlinked);
       met = useful-met (job .needs) split (p .met);
     })

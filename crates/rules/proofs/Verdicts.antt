@@ -6,8 +6,7 @@ use mathlib.Core.Option.{Option, none, some, Option·map, Option·getD, orElse, 
 use Prim.Native.Nat.{ℕ}
 use borrow.Author.Tests.{not-true, not-false}
 use Rattle.rules.specs.Lists.{every, firstWhere}
-use Rattle.rules.specs.Sets.{contains}
-use Rattle.rules.specs.Jobs.{Job, safe, unlinked}
+use Rattle.rules.specs.Jobs.{Job, breaks, safe, allowed, unlinked}
 use Rattle.rules.specs.Numbers.{Numbers, unfit, jobOf}
 use Rattle.rules.specs.Splits.{proper, allUnlinked, met, correct}
 use Rattle.rules.specs.Verdicts.{Verdict, unfitJob, improper, forbids, shares, unmet, right, refusalOf}
@@ -16,6 +15,7 @@ use Rattle.rules.specs.Verdicts.{Places, firstImproper, firstForbidden, 
 use Rattle.rules.proofs.Lists.{and-parts, and-both, every-in, every-all, not-any-in, not-any-all, first-none, none-first}
 use Rattle.rules.proofs.Searches.{else-none}
 use Rattle.rules.proofs.Numbers.{unfit-none, fit-job}
+use Rattle.rules.proofs.Jobs.{allowed-safe}
 use Rattle.rules.proofs.Splits.{correct-parts, parts-correct}
 
 -- ---- of several findings
@@ -69,27 +69,28 @@ module _ (P : Option Verdict → Type 0) where
   unfolding firstFault
   any-fault job split n a b c d =
       kind improper (firstImproper job split) _ a
-      (kind (λ (p : Places). forbids (p .i) (p .j)) (firstForbidden (job .forbidden) split) _ (λ p. b (p .i) (p .j))
+      (kind (λ (p : Places). forbids (p .i) (p .j)) (firstForbidden job split) _ (λ p. b (p .i) (p .j))
       (kind (λ (p : Places). shares (p .i) (p .j)) (firstSharing job split) _ (λ p. c (p .i) (p .j))
       (last-kind unmet (firstUnmet (job .needs) split) d n)))
 
 -- ---- each of the faults
 
 module _ (job : Job) where
-  forbidden-safe : (split : List ℕ) → firstForbidden (job .forbidden) split ≡ none → every (safe job) split ≡ true
+  forbidden-allowed : (split : List ℕ) → firstForbidden job split ≡ none → every (allowed job) split ≡ true
   unfolding firstForbidden every safe
-  forbidden-safe [] e = refl
-  forbidden-safe (s ∷ split) e =
+  forbidden-allowed [] e = refl
+  forbidden-allowed (s ∷ split) e =
       let o = else-none _ _ e in
-      and-both (safe job s) (every (safe job) split) (ap not (first-none (contains s) (job .forbidden) (map-none _ _ (o .0))))
-      (forbidden-safe split (map-none _ _ (o .1)))
+      let here : safe job s ≡ true = ap not (first-none (breaks job s) (job .forbidden) (map-none _ _ (o .0))) in
+      and-both (allowed job s) (every (allowed job) split) (allowed-safe job s ∙ here) (forbidden-allowed split (map-none _ _ (o .1)))
 
-  safe-forbidden : (split : List ℕ) → every (safe job) split ≡ true → firstForbidden (job .forbidden) split ≡ none
+  allowed-forbidden : (split : List ℕ) → every (allowed job) split ≡ true → firstForbidden job split ≡ none
   unfolding firstForbidden every safe
-  safe-forbidden [] e = refl
-  safe-forbidden (s ∷ split) e =
-      let p = and-parts (safe job s) (every (safe job) split) e in
-      none-else _ _ (none-map _ _ (none-first (contains s) (job .forbidden) (not-true _ (p .0)))) (none-map _ _ (safe-forbidden split (p .1)))
+  allowed-forbidden [] e = refl
+  allowed-forbidden (s ∷ split) e =
+      let p = and-parts (allowed job s) (every (allowed job) split) e in
+      let here : safe job s ≡ true = sym (allowed-safe job s) ∙ p .0 in
+      none-else _ _ (none-map _ _ (none-first (breaks job s) (job .forbidden) (not-true _ here))) (none-map _ _ (allowed-forbidden split (p .1)))
 
   sharing-unlinked : (split : List ℕ) → firstSharing job split ≡ none → allUnlinked job split ≡ true
   unfolding firstSharing allUnlinked
@@ -116,7 +117,7 @@ module _ (job : Job) where
       let c = else-none _ _ (b .1) in
       parts-correct job split (record {
         proper = faultless-every (proper job) split (map-none _ _ (a .0));
-        safe = forbidden-safe split (map-none _ _ (b .0));
+        allowed = forbidden-allowed split (map-none _ _ (b .0));
         unlinked = sharing-unlinked split (map-none _ _ (c .0));
         met = faultless-every (met split) (job .needs) (map-none _ _ (c .1));
       })
@@ -126,7 +127,7 @@ module _ (job : Job) where
   correct-faultless split e =
       let p = correct-parts job split e in
       none-else _ _ (none-map _ _ (every-faultless (proper job) split (p .proper)))
-      (none-else _ _ (none-map _ _ (safe-forbidden split (p .safe)))
+      (none-else _ _ (none-map _ _ (allowed-forbidden split (p .allowed)))
       (none-else _ _ (none-map _ _ (unlinked-sharing split (p .unlinked)))
       (none-map _ _ (every-faultless (met split) (job .needs) (p .met)))))
 

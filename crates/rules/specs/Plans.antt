@@ -8,8 +8,7 @@ use Prim.Native.Nat.{ℕ, _+_, _-_, _^_}
 use lib.Dec.{eqb, ltb, leb}
 use lib.ListN.{length}
 use Rattle.rules.specs.Lists.{every, keep, upFrom}
-use Rattle.rules.specs.Sets.{size}
-use Rattle.rules.specs.Jobs.{Job, safe, unlinked}
+use Rattle.rules.specs.Jobs.{Job, allowed, unlinked, price}
 use Rattle.rules.specs.Splits.{correct}
 
 -- a number put in before the first that is not smaller
@@ -22,10 +21,10 @@ unfoldable pub rising : List ℕ → List ℕ
 rising [] = []
 rising (s ∷ split) = putIn s (rising split)
 
--- "columns in all"
+-- "columns in all": what the extracts cost together
 unfoldable pub cost : Job → List ℕ → ℕ
 cost job [] = 0
-cost job (s ∷ split) = size s + cost job split
+cost job (s ∷ split) = price job s + cost job split
 
 -- what splits are compared by, most important first
 unfoldable pub rank : Job → List ℕ → List ℕ
@@ -50,9 +49,9 @@ choices job (s ∷ candidates) chosen =
     choices job candidates chosen
     ++ cond (every (λ c. unlinked job c s) chosen) (map (λ split. s ∷ split) (choices job candidates (s ∷ chosen))) []
 
--- every correct split, written as rising numbers. Only safe sets are tried: they alone can stand in a correct split
+-- every correct split, written as rising numbers. Only allowed sets are tried: they alone can stand in a correct split
 unfoldable pub splits : Job → List (List ℕ)
-splits job = keep (correct job) (choices job (keep (safe job) (upFrom 1 (2 ^ job .columns - 1))) [])
+splits job = keep (correct job) (choices job (keep (allowed job) (upFrom 1 (2 ^ job .columns - 1))) [])
 
 -- of two splits the one with the lower rank
 unfoldable pub better : Job → List ℕ → Option (List ℕ) → List ℕ

@@ -3,18 +3,18 @@
 use mathlib.Core.Path.{_≡_}
 use mathlib.Core.Bool.{Bool, true, false, not, _&&_}
 use mathlib.Core.List.{List, [], _∷_, List·Memᴰ}
-use Prim.Native.Nat.{ℕ, _<_, _^_}
+use Prim.Native.Nat.{ℕ, _+_, _<_, _^_}
 use lib.Dec.{eqb}
 use lib.ListN.{length, getD}
 use Rattle.rules.specs.Lists.{every, anyOf}
-use Rattle.rules.specs.Sets.{within, contains}
+use Rattle.rules.specs.Sets.{within, size}
 use Rattle.rules.specs.Needs.{Need, meets}
-use Rattle.rules.specs.Jobs.{Job, safe, unlinked}
+use Rattle.rules.specs.Jobs.{Job, breaks, allowed, unlinked}
 
 -- the sentence as a proposition; its last three parts are the three of 000's Definition 4
 pub record Correct (job : Job) (split : List ℕ) : Type 0 where
   pub proper : (s : ℕ) → List·Memᴰ s split → (0 < s) × (s < 2 ^ job .columns)
-  pub confidential : (s f : ℕ) → List·Memᴰ s split → List·Memᴰ f (job .forbidden) → contains s f ≡ false
+  pub confidential : (s f : ℕ) → List·Memᴰ s split → List·Memᴰ f (job .forbidden) → breaks job s f ≡ false
   pub visible : (v : Need) → List·Memᴰ v (job .needs) → (s : ℕ) × List·Memᴰ s split × (meets v s ≡ true)
   pub unlinkable : (i j : ℕ) → i < j → j < length split → unlinked job (getD split i 0) (getD split j 0) ≡ true
 
@@ -34,4 +34,9 @@ met split v = anyOf (meets v) split
 -- the sentence as a test
 unfoldable pub correct : Job → List ℕ → Bool
 correct job split =
-    every (proper job) split && (every (safe job) split && (allUnlinked job split && every (met split) (job .needs)))
+    every (proper job) split && (every (allowed job) split && (allUnlinked job split && every (met split) (job .needs)))
+
+-- how many columns the extracts have together
+unfoldable pub columnsIn : List ℕ → ℕ
+columnsIn [] = 0
+columnsIn (s ∷ split) = size s + columnsIn split

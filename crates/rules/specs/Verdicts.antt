@@ -6,9 +6,8 @@ use mathlib.Core.List.{List, [], _∷_}
 use mathlib.Core.Option.{Option, none, some, Option·map, Option·getD, orElse}
 use Prim.Native.Nat.{ℕ, suc}
 use Rattle.rules.specs.Lists.{firstWhere}
-use Rattle.rules.specs.Sets.{contains}
 use Rattle.rules.specs.Needs.{Need}
-use Rattle.rules.specs.Jobs.{Job, unlinked}
+use Rattle.rules.specs.Jobs.{Job, breaks, unlinked}
 use Rattle.rules.specs.Numbers.{Numbers, jobOf}
 use Rattle.rules.specs.Splits.{proper, met}
 use Rattle.rules.specs.Refusals.{numbersUnfit}
@@ -54,11 +53,11 @@ abbrev pub firstImproper : Job → List ℕ → Option ℕ
 firstImproper job split = firstWhere (λ s. not (proper job s)) split
 
 -- the smallest i, then j, such that extract i contains forbidden set j
-unfoldable pub firstForbidden : List ℕ → List ℕ → Option Places
-firstForbidden forbidden [] = none
-firstForbidden forbidden (s ∷ split) =
-    orElse (Option·map (λ j. record { i = 0; j = j }) (firstWhere (contains s) forbidden))
-    (Option·map (λ p. record { i = suc (p .i); j = p .j }) (firstForbidden forbidden split))
+unfoldable pub firstForbidden : Job → List ℕ → Option Places
+firstForbidden job [] = none
+firstForbidden job (s ∷ split) =
+    orElse (Option·map (λ j. record { i = 0; j = j }) (firstWhere (breaks job s) (job .forbidden)))
+    (Option·map (λ p. record { i = suc (p .i); j = p .j }) (firstForbidden job split))
 
 -- the smallest i, then j, such that extracts i and j, i below j, share a column
 unfoldable pub firstSharing : Job → List ℕ → Option Places
@@ -75,7 +74,7 @@ firstUnmet needs split = firstWhere (λ v. not (met split v)) needs
 unfoldable pub firstFault : Job → List ℕ → Option Verdict
 firstFault job split =
     orElse (Option·map improper (firstImproper job split))
-    (orElse (Option·map (λ p. forbids (p .i) (p .j)) (firstForbidden (job .forbidden) split))
+    (orElse (Option·map (λ p. forbids (p .i) (p .j)) (firstForbidden job split))
     (orElse (Option·map (λ p. shares (p .i) (p .j)) (firstSharing job split))
     (Option·map unmet (firstUnmet (job .needs) split))))
 

@@ -1,6 +1,6 @@
 -- A table of which needs each set meets, one need more. Assumes nothing.
 use mathlib.Core.Path.{_≡_, sym, ap, _∙_}
-use mathlib.Core.Bool.{cond}
+use mathlib.Core.Bool.{Bool, cond}
 use mathlib.Core.List.{List}
 use Prim.Native.Nat.{ℕ, _+_, _^_, _≤_, _<_}
 use native.Mathlib.Nat.{zero-add}
@@ -10,19 +10,22 @@ use lib.ListN.{length, getD, replicate, getD-replicate}
 use Rattle.rules.specs.Lists.{upFrom}
 use Rattle.rules.specs.Sets.{worth}
 use Rattle.rules.specs.Jobs.{Job}
-use Rattle.rules.specs.Conditions.{condition, gain}
+use Rattle.rules.specs.Conditions.{condition, gains, gain}
+use Rattle.rules.proofs.Conditions.{gains-condition}
 use Rattle.rules.proofs.Counting.{upFrom-last}
 use Rattle.rules.proofs.SetBits.{worth-append, worth-within}
 use Rattle.tables.specs.Tables.{Valued}
 
 -- ---- the worth of a set by the first needs
 
--- which of the first so many needs a set meets, where it is safe
+-- which of the first so many needs a set gains
 abbrev pub gainOf : Job → ℕ → ℕ → ℕ
-gainOf job k s = worth (λ i. condition job i s) (upFrom 0 k)
+gainOf job k s = worth (λ i. gains job i s) (upFrom 0 k)
 
 gain-more : (job : Job) (k s : ℕ) → gainOf job (k + 1) s ≡ gainOf job k s + cond (condition job k s) (2 ^ k) 0
-gain-more job k s = rw (add-one, upFrom-last 0 k, zero-add) (worth-append (λ i. condition job i s) (upFrom 0 k) k)
+gain-more job k s =
+    rw (add-one, upFrom-last 0 k, zero-add)
+    (worth-append (λ i. gains job i s) (upFrom 0 k) k ∙ ap (λ (b : Bool). gainOf job k s + cond b (2 ^ k) 0) (gains-condition job k s))
 
 -- ---- a table of the worths
 
@@ -35,7 +38,7 @@ module _ (job : Job) (count : ℕ) (numbers : List ℕ) where
   gains-more k listed s l = listed s l ∙ sym (gain-more job k s)
 
   pub gains-below : (k : ℕ) → Valued count (gainOf job k) numbers → (s : ℕ) → s < count → getD numbers s 0 < 2 ^ k
-  gains-below k listed s l = rw (listed s l) (worth-within (λ i. condition job i s) k)
+  gains-below k listed s l = rw (listed s l) (worth-within (λ i. gains job i s) k)
 
   pub gains-all : (k : ℕ) → length (job .needs) ≡ k → Valued count (gainOf job k) numbers → Valued count (gain job) numbers
   unfolding gain

@@ -1,6 +1,6 @@
 -- What a job by value has, and what its tables tell: the conditions at every set, and the needs that every set meets. Assumes nothing.
-use mathlib.Core.Path.{_≡_, sym, _∙_}
-use mathlib.Core.Bool.{true, not, _&&_}
+use mathlib.Core.Path.{_≡_, sym, ap, _∙_}
+use mathlib.Core.Bool.{Bool, true, not, _&&_}
 use mathlib.Core.List.{List, []}
 use mathlib.Core.Option.{some}
 use Prim.Native.Nat.{ℕ, _≤_, _<_, min}
@@ -11,9 +11,10 @@ use Rattle.rules.specs.Sets.{contains}
 use Rattle.rules.specs.Needs.{Need, column, meets}
 use Rattle.rules.specs.Marks.{rows, needOf, beforeEnd}
 use Rattle.rules.specs.Numbers.{jobOf}
-use Rattle.rules.specs.Jobs.{Job, safe}
+use Rattle.rules.specs.Jobs.{Job}
 use Rattle.rules.specs.Conditions.{meetsChosen, condition}
 use Rattle.rules.proofs.Numbers.{fit-job, job-fit}
+use Rattle.rules.proofs.Jobs.{safe-contains}
 use Rattle.rules.proofs.Conditions.{chosen-need, past-needs}
 use Rattle.job.specs.declared.Job.{Job as Held}
 use Rattle.job.specs.Records.{numbersIn, Sound}
@@ -57,5 +58,9 @@ module _ (job : Held) (sound : Sound job) where
     pub condition-told : (chosen count : ℕ) (words : List ℕ)
         → Tells count (λ s. meetsChosen (j .needs) chosen s && not (anyOf (contains s) (take (job .sets) (job .forbidden)))) words
         → Tells count (condition j chosen) words
-    unfolding numbersIn condition safe
-    condition-told chosen count words told = rw (job-fit (numbersIn job) j e .forbidden) told
+    unfolding numbersIn condition
+    condition-told chosen count words told =
+        let sets = job-fit (numbersIn job) j e .forbidden in
+        tells-same count _ (condition j chosen) words
+        (λ s. ap (λ (b : Bool). meetsChosen (j .needs) chosen s && b) (ap (λ (l : List ℕ). not (anyOf (contains s) l)) (sym sets) ∙ sym (safe-contains j s)))
+        told

@@ -13,8 +13,9 @@ use Rattle.rules.specs.Sets.{contains, within}
 use Rattle.rules.specs.Needs.{Need}
 use Rattle.rules.specs.Marks.{rows}
 use Rattle.rules.specs.Numbers.{Numbers, unfit, jobOf, setsTooMany, setUnfit, markUnfit, needUnfit, needsTooMany}
-use Rattle.rules.specs.Jobs.{Job, safe}
+use Rattle.rules.specs.Jobs.{Job}
 use Rattle.rules.specs.Conditions.{meetsChosen, condition}
+use Rattle.rules.proofs.Jobs.{safe-contains}
 use Rattle.rules.proofs.Lists.{and-parts, or-neither, or-none}
 use Rattle.rules.proofs.Numbers.{fit-clauses, fit-job, fit-of-job, job-fit}
 use Rattle.job.specs.declared.Job.{Job as Held}
@@ -129,14 +130,15 @@ module _ (q : Numbers) (j : Job) (e : jobOf q ≡ some j) where
       )
 
   condition-mirrored : (chosen place : ℕ) → condition mirroredMeaning chosen place ≡ condition j chosen (mirror (q .columns) place)
-  unfolding condition safe
+  unfolding condition
   condition-mirrored chosen place =
       let n = q .columns in
       let fit = fit-clauses q (fit-of-job q j e) in
       let given = job-fit q j e in
       let spared = forbidden-mirrored n place (q .forbidden) (columns-few q (fit-of-job q j e)) (fit .sets) in
       ap₂ _&&_ (chosen-mirrored n place (j .needs) chosen (needs-below n (q .marks) (j .needs) (fit .marks) (given .needs)))
-      (ap not (spared ∙ ap (anyOf (contains (mirror n place))) (sym (given .forbidden))))
+      (safe-contains mirroredMeaning place ∙ ap not (spared ∙ ap (anyOf (contains (mirror n place))) (sym (given .forbidden)))
+      ∙ sym (safe-contains j (mirror n place)))
 
 -- ---- the job by value
 

@@ -7,6 +7,7 @@ use borrow.Author.Tests.{not-true, not-false}
 use Rattle.rules.specs.Lists.{firstWhere}
 use Rattle.rules.specs.Numbers.{Numbers, setUnfit}
 use Rattle.rules.specs.Verdicts.{firstForbidden, firstSharing, firstUnmet}
+use Rattle.rules.proofs.Numbers.{job-fit}
 use Rattle.job.specs.Findings.{placeOf}
 use Rattle.judge.specs.Answers.{placesOf}
 use Rattle.job.proofs.Known.{Known, is-loaded}
@@ -74,6 +75,12 @@ unfit-told : (b : lts.After-first-unfit-set claims reads.Pre reads.Post) → let
     firstWhere (setUnfit (given l .columns)) (judgedOn l) ≡ placeOf (b .first-unfit-set .result)
 unfit-told b = same-columns (judgedOn (back1 b .before .before)) (known (back1 b) .columns) (sym (b .first-unfit-set .ensures))
 
+forbidden-told : (b : lts.After-first-forbidden claims reads.Pre reads.Post)
+    → firstForbidden (known (back2 b) .job) (judgedOn (back2 b .before .before)) ≡ placesOf (b .first-forbidden .result)
+forbidden-told b =
+    let k = known (back2 b) in
+    sym (b .first-forbidden .ensures (k .job) (job-fit (given (back2 b .before .before)) (k .job) (k .known) .forbidden))
+
 sharing-told : (b : lts.After-first-sharing claims reads.Pre reads.Post)
     → firstSharing (known (back3 b) .job) (judgedOn (back3 b .before .before)) ≡ placesOf (b .first-sharing .result)
 sharing-told b = sym (b .first-sharing .ensures (known (back3 b) .job))
@@ -90,9 +97,9 @@ all-proper : (b : lts.After-enum-told claims reads.Pre reads.Post) → let l = b
     firstWhere (setUnfit (given l .columns)) (judgedOn l) ≡ none
 all-proper b = unfit-told (b .before .before) ∙ ap placeOf (b .enum-told .given .1)
 
-all-safe : (b : lts.After-enum-told2 claims reads.Pre reads.Post) → let l = back2 (b .before .before) .before .before in
-    firstForbidden (given l .forbidden) (judgedOn l) ≡ none
-all-safe b = sym (b .before .before .first-forbidden .ensures) ∙ ap placesOf (b .enum-told2 .given .1)
+all-safe : (b : lts.After-enum-told2 claims reads.Pre reads.Post) → let e = back2 (b .before .before) in
+    firstForbidden (known e .job) (judgedOn (e .before .before)) ≡ none
+all-safe b = forbidden-told (b .before .before) ∙ ap placesOf (b .enum-told2 .given .1)
 
 all-unlinked : (b : lts.After-enum-told3 claims reads.Pre reads.Post) → let e = back3 (b .before .before) in
     firstSharing (known e .job) (judgedOn (e .before .before)) ≡ none
@@ -125,15 +132,15 @@ enum-told c = search needs
 first-forbidden-requires : tie.Need-first-forbidden-requires
 first-forbidden-requires c κs = search needs
 
-enum-known-contained : tie.Need-enum-known-contained
-enum-known-contained c = search needs
+enum-known-broken : tie.Need-enum-known-broken
+enum-known-broken c = search needs
 
 returns-3 : tie.Need-returns-3
 returns-3 c =
     let b = c .before .before .before in
     let l = back2 b .before .before in
     let k = known (back2 b) in
-    let found = sym (b .first-forbidden .ensures) ∙ ap placesOf (c .before .contained .given .1) in
+    let found = forbidden-told b ∙ ap placesOf (c .before .broken .given .1) in
     sym (answer-forbids (given l) (judgedOn l) (k .job) (k .known) (all-proper (b .before)) _ found)
 
 enum-told-2 : tie.Need-enum-told-2
@@ -204,7 +211,7 @@ judge-spec =
     returns-2
     enum-told
     first-forbidden-requires
-    enum-known-contained
+    enum-known-broken
     returns-3
     enum-told-2
     first-sharing-requires

@@ -6,7 +6,7 @@ use borrow.Author.Count.{below-more}
 use borrow.Author.Tests.{not-true, not-false}
 use lib.ListN.{length}
 use Rattle.rules.specs.Jobs.{Job}
-use Rattle.rules.proofs.FirstFaults.{UnlinkedTo, UnlinkedBefore, sharing-found, sharing-nothing, unlinked-apart}
+use Rattle.rules.proofs.FirstFaults.{UnlinkedTo, UnlinkedBefore, sharing-found, sharing-nothing}
 use Rattle.judge.specs.declared.pairs.Pair.the-variants.{Nothing}
 use borrow.Author.Needs.{needs}
 use Rattle.judge.proofs.pairs.first_sharing.Statement.{statement}
@@ -33,20 +33,20 @@ add-j c = search needs
 loop-holds : tie.Need-loop-holds Inv-loop μ-loop Inv-search μ-search
 loop-holds c = (omega arith, omega arith, c .before .search .inv .1, λ job k h g. absurd (omega arith))
 
-mul-t7 : tie.Need-mul-t7 Inv-loop μ-loop Inv-search μ-search
-mul-t7 c = search needs
+mul-unlinked : tie.Need-mul-unlinked Inv-loop μ-loop Inv-search μ-search
+mul-unlinked c = search needs
 
-shared-slice-read-t10 : tie.Need-shared-slice-read-t10 Inv-loop μ-loop Inv-search μ-search
-shared-slice-read-t10 c = search needs
+shared-slice-read-unlinked : tie.Need-shared-slice-read-unlinked Inv-loop μ-loop Inv-search μ-search
+shared-slice-read-unlinked c = search needs
 
-mul-t12 : tie.Need-mul-t12 Inv-loop μ-loop Inv-search μ-search
-mul-t12 c = search needs
+mul-unlinked-2 : tie.Need-mul-unlinked-2 Inv-loop μ-loop Inv-search μ-search
+mul-unlinked-2 c = search needs
 
-shared-slice-read-t14 : tie.Need-shared-slice-read-t14 Inv-loop μ-loop Inv-search μ-search
-shared-slice-read-t14 c = search needs
+shared-slice-read-unlinked-2 : tie.Need-shared-slice-read-unlinked-2 Inv-loop μ-loop Inv-search μ-search
+shared-slice-read-unlinked-2 c = search needs
 
-apart-requires : tie.Need-apart-requires Inv-loop μ-loop Inv-search μ-search
-apart-requires c κs = search needs
+unlinked-requires : tie.Need-unlinked-requires Inv-loop μ-loop Inv-search μ-search
+unlinked-requires c κs = search needs
 
 add-j-2 : tie.Need-add-j-2 Inv-loop μ-loop Inv-search μ-search
 add-j-2 c = search needs
@@ -56,9 +56,13 @@ loop-less c = search needs
 
 loop-again : tie.Need-loop-again Inv-loop μ-loop Inv-search μ-search
 loop-again c =
-    let l = c .before .before .before .before .before .loop in
-    let apart = sym (c .before .apart .ensures) ∙ not-false _ (c .if1 .left) in
-    (omega arith, omega arith, l .inv .2, λ job. below-more _ (l .j) (l .inv .3 job) (λ g. unlinked-apart job _ _ ∙ apart))
+    let l = c .before .before .before .before .before .loop in (
+      omega arith,
+      omega arith,
+      l .inv .2,
+      λ job.
+          below-more _ (l .j) (l .inv .3 job) (λ g. sym (c .before .unlinked .ensures job) ∙ not-false _ (c .if1 .left)),
+    )
 
 add-i : tie.Need-add-i Inv-loop μ-loop Inv-search μ-search
 add-i c = search needs
@@ -85,10 +89,9 @@ returns-2 c =
     let l = c .before .before .before .before .before .loop in
     let o = c .before .before .before .before .before .before .before .search in
     let split = c .before .before .before .before .before .before .before .before .before .args .split .now in
-    let shared = sym (c .before .apart .ensures) ∙ not-true _ (c .if1 .taken) in
     λ job.
-    sym
-    (sharing-found job split (o .i) (l .j) (l .inv .0) (omega arith) (o .inv .2 job) (l .inv .3 job) (unlinked-apart job _ _ ∙ shared))
+    let shared = sym (c .before .unlinked .ensures job) ∙ not-true _ (c .if1 .taken) in
+    sym (sharing-found job split (o .i) (l .j) (l .inv .0) (omega arith) (o .inv .2 job) (l .inv .3 job) shared)
 
 pub first-sharing-spec : {M : Type 1} → statement M
 first-sharing-spec =
@@ -101,11 +104,11 @@ first-sharing-spec =
     search-holds
     add-j
     loop-holds
-    mul-t7
-    shared-slice-read-t10
-    mul-t12
-    shared-slice-read-t14
-    apart-requires
+    mul-unlinked
+    shared-slice-read-unlinked
+    mul-unlinked-2
+    shared-slice-read-unlinked-2
+    unlinked-requires
     add-j-2
     loop-less
     loop-again
