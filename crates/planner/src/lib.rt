@@ -1,5 +1,6 @@
 // The planner's split of a job: of all correct splits those with fewest extracts, of these those with fewest columns in all, and of these,
 // written as rising numbers, the one whose first differing number is smaller.
+use columns::ALL_SETS;
 use job::refusals::NO_CORRECT_SPLIT;
 use job::refusals::NUMBERS_UNFIT;
 use job::refusals::SLICE_TOO_SHORT;
@@ -36,7 +37,7 @@ pub fn plan(columns: usize, forbidden: &[u16], marks: &[u16], extracts: &mut [u1
     }
     let job = loaded.job;
     let needs = job.needs as u16;
-    let mut gains = [0u8; 65536];
+    let mut gains = [0u8; ALL_SETS];
     tables::gains(job, &mut gains);
     let count = searching::best(&gains, job.columns, needs, extracts);
     if needs < count {

@@ -6,7 +6,7 @@ use native.Mathlib.Decide.{decLt}
 use native.Mathlib.Omega.{arith}
 use lib.Bits.{bitAnd}
 use borrow.Author.Tests.{eq-eqb, ne-eqb}
-use Rattle.rules.specs.Sets.{contains, apart, size}
+use Rattle.rules.specs.Sets.{allSets, contains, apart, size}
 use Rattle.rules.proofs.Lists.{holds-fails}
 use Rattle.rules.proofs.Sets.{apart-bits}
 use Rattle.parts.specs.Parts.{Inside}
@@ -48,14 +48,14 @@ module _ (gain : ℕ → ℕ) (task : Task) (from : ℕ) where
   -- the search has come to a number and found none from where it began
   pub record Passed (number : ℕ) : Type 0 where
     pub later : from ≤ number
-    pub near : number ≤ 65536
+    pub near : number ≤ allSets
     pub none : (t : ℕ) → from ≤ t → t < number → Next gain task t → ⊥
 
   pub passed-none : SomeNext gain task from → Passed from
   passed-none m =
       record { later = omega arith; near = omega (arith, m .later, m .next .inside .small); none = λ t l h n. absurd (omega arith) }
 
-  pub passed-one : (number : ℕ) → Passed number → number < 65536 → (test : Bool) → Decides test (Next gain task number) → test ≡ false
+  pub passed-one : (number : ℕ) → Passed number → number < allSets → (test : Bool) → Decides test (Next gain task number) → test ≡ false
       → Passed (number + 1)
   passed-one number p l test d e =
       record { later = omega (arith, p .later); near = omega arith; none = λ t h k n. go t h k n (decLt t number) }
@@ -66,7 +66,7 @@ module _ (gain : ℕ → ℕ) (task : Task) (from : ℕ) where
           let same : t ≡ number = omega arith in
           denied (Next gain task number) test d e (subst (λ (x : ℕ). Next gain task x) same n)
 
-  pub passed-all : SomeNext gain task from → (number : ℕ) → Passed number → 65536 ≤ number → FirstNext gain task from number
+  pub passed-all : SomeNext gain task from → (number : ℕ) → Passed number → allSets ≤ number → FirstNext gain task from number
   passed-all m number p l = absurd (p .none (m .set) (m .later) (omega (arith, m .next .inside .small)) (m .next))
 
   pub found-next : (number : ℕ) → Passed number → (test : Bool) → Decides test (Next gain task number) → test ≡ true

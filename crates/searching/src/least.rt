@@ -1,6 +1,7 @@
 // The least number of sets that meet the needs, and the least cost of so many.
 use crate::serve;
 use crate::serve::Task;
+use columns::ALL_SETS;
 use columns::ColumnSet;
 ghost use Prim.Native.Nat.{_≤_};
 ghost use Rattle.rules.specs.Sets.{size};
@@ -10,8 +11,8 @@ ghost use Rattle.searching.specs.Searching.{Fewest, Cheapest};
 
 // The least number of sets, each more being tried in turn; one more than there are needs if so many don't serve.
 pub fn fewest(
-    lean: &[u8; 65536],
-    possible: &[u8; 65536],
+    lean: &[u8; ALL_SETS],
+    possible: &[u8; ALL_SETS],
     counts: &[u32; 8],
     needs: u16,
     free: ColumnSet,
@@ -39,8 +40,8 @@ pub fn fewest(
 
 // The least cost of so many sets, by halving: it lies from `low` to `high`.
 pub fn cheapest(
-    lean: &[u8; 65536],
-    possible: &[u8; 65536],
+    lean: &[u8; ALL_SETS],
+    possible: &[u8; ALL_SETS],
     counts: &[u32; 8],
     extracts: u16,
     free: ColumnSet,

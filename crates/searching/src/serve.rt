@@ -1,5 +1,6 @@
 // Whether at most so many sets, taken from the free columns, can meet the unmet needs at such a cost.
 use crate::rarest;
+use columns::ALL_SETS;
 use columns::ColumnSet;
 ghost use mathlib.Core.Path.{_≡_};
 ghost use mathlib.Core.Bool.{_&&_};
@@ -39,7 +40,7 @@ pub fn after(task: Task, set: ColumnSet, gained: u8) -> Task
 }
 
 // Whether the set meets all needs that are wanted, at such a cost.
-fn suits(lean: &[u8; 65536], set: ColumnSet, wanted: u8, cost: u32) -> bool
+fn suits(lean: &[u8; ALL_SETS], set: ColumnSet, wanted: u8, cost: u32) -> bool
     ensures { λ r. ⌜ r ≡ (contains (inTable (now (lean .entry)) (set .bits)) wanted && leb (size (set .bits)) cost) ⌝ }
 {
     if lean[set.bits as usize] & wanted != wanted {
@@ -49,7 +50,7 @@ fn suits(lean: &[u8; 65536], set: ColumnSet, wanted: u8, cost: u32) -> bool
 }
 
 // Tries every set of the free columns that meets a wanted need, the largest number first, and goes back where nothing comes of it.
-pub fn can(lean: &[u8; 65536], possible: &[u8; 65536], counts: &[u32; 8], task: Task) -> bool
+pub fn can(lean: &[u8; ALL_SETS], possible: &[u8; ALL_SETS], counts: &[u32; 8], task: Task) -> bool
     requires { ⌜ Bounded (inTable (now lean)) (inTable (now possible)) (task .free .bits) ⌝ }
     ensures { λ r. ⌜ Decides r (ServableFrom (inTable (now (lean .entry))) task) ⌝ }
 {

@@ -2,6 +2,7 @@
 // one before is tried again. A set with a column too many is in no best list, so the lean table has all that is needed.
 use crate::serve;
 use crate::serve::Task;
+use columns::ALL_SETS;
 use columns::ColumnSet;
 ghost use Prim.Native.Nat.{_≤_, _<_};
 ghost use lib.ListN.{length};
@@ -11,8 +12,8 @@ ghost use Rattle.searching.specs.Searching.{Next, SomeNext, FirstNext, L
 
 // Whether the set meets an unmet need and leaves what the further sets can serve. The test of the cost stands before the search.
 fn is_next(
-    lean: &[u8; 65536],
-    possible: &[u8; 65536],
+    lean: &[u8; ALL_SETS],
+    possible: &[u8; ALL_SETS],
     counts: &[u32; 8],
     task: Task,
     set: ColumnSet,
@@ -34,12 +35,18 @@ fn is_next(
 }
 
 // The smallest set, from a number on, that a best list goes on with.
-fn next(lean: &[u8; 65536], possible: &[u8; 65536], counts: &[u32; 8], task: Task, from: u32) -> u32
+fn next(
+    lean: &[u8; ALL_SETS],
+    possible: &[u8; ALL_SETS],
+    counts: &[u32; 8],
+    task: Task,
+    from: usize,
+) -> usize
     requires { ⌜ SomeNext (inTable (now lean)) task from × Bounded (inTable (now lean)) (inTable (now possible)) (task .free .bits) ⌝ }
     ensures { λ r. ⌜ FirstNext (inTable (now (lean .entry))) task from r ⌝ }
 {
     let mut number = from;
-    while number < 65536 {
+    while number < ALL_SETS {
         let set = ColumnSet {
             bits: number as u16,
         };
@@ -53,8 +60,8 @@ fn next(lean: &[u8; 65536], possible: &[u8; 65536], counts: &[u32; 8], task: Tas
 
 // Writes the sets of the best list.
 pub fn take(
-    lean: &[u8; 65536],
-    possible: &[u8; 65536],
+    lean: &[u8; ALL_SETS],
+    possible: &[u8; ALL_SETS],
     counts: &[u32; 8],
     all: Task,
     extracts: &mut [u16],

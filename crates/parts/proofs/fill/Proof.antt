@@ -5,18 +5,19 @@ use native.Mathlib.Omega.{arith}
 use lib.ListN.{length}
 use lib.Pow.{pow-mono}
 use borrow.Author.Needs.{needs}
+use Rattle.rules.specs.Sets.{allSets}
 use Rattle.parts.specs.Parts.{inTable}
 use Rattle.parts.proofs.FilledTables.{Filled, filled-none, filled-more, filled-all}
 use Rattle.parts.proofs.fill.Statement.{statement}
 use Rattle.parts.proofs.fill.Tie as tie
 
 -- what omega cannot see of a power: a table has room for it
-room : (n : ℕ) → n ≤ 16 → (1 * 2 ^ n % 2 ^ 64 ≡ 2 ^ n) × (2 ^ n ≤ 65536)
-room n l = let few : 2 ^ n ≤ 65536 = pow-mono {i = n} {j = 16} l in (omega arith, few)
+room : (n : ℕ) → n ≤ 16 → (1 * 2 ^ n % 2 ^ 64 ≡ 2 ^ n) × (2 ^ n ≤ allSets)
+room n l = let few : 2 ^ n ≤ allSets = pow-mono {i = n} {j = 16} l in (omega arith, few)
 
 abbrev Inv-loop : tie.InvT-loop
 Inv-loop gains columns lean₀ possible₀ count s₀ lean possible s =
-    (s ≤ count) × (count ≡ 2 ^ columns) × (count ≤ 65536) × (length lean ≡ 65536) × (length possible ≡ 65536)
+    (s ≤ count) × (count ≡ 2 ^ columns) × (count ≤ allSets) × (length lean ≡ allSets) × (length possible ≡ allSets)
     × Filled (inTable gains) (inTable lean) (inTable possible) s
 
 abbrev μ-loop : tie.MeasureT-loop

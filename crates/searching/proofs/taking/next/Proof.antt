@@ -1,6 +1,7 @@
 -- `searching::taking::next` meets its contract. Assumes nothing.
 use Prim.Native.Nat.{_-_}
 use native.Mathlib.Omega.{arith}
+use Rattle.rules.specs.Sets.{allSets}
 use Rattle.parts.specs.Parts.{inTable}
 use Rattle.searching.proofs.Nexts.{Passed, passed-none, passed-one, passed-all, found-next}
 use borrow.Author.Needs.{needs}
@@ -11,7 +12,7 @@ abbrev Inv-loop : tie.InvT-loop
 Inv-loop lean possible counts task from number₀ number = Passed (inTable lean) task from number
 
 abbrev μ-loop : tie.MeasureT-loop
-μ-loop lean possible counts task from number₀ number = 65536 - number
+μ-loop lean possible counts task from number₀ number = allSets - number
 
 loop-holds : tie.Need-loop-holds Inv-loop μ-loop
 loop-holds c = passed-none (inTable (c .args .lean .now)) (c .args .task) (c .args .from) (c .pre .0)
