@@ -1,6 +1,5 @@
 -- Sets with a column too many: they gain as much without it, and so in the end does a part of them with none too many. Assumes nothing.
 use mathlib.Core.Path.{_≡_, refl, sym, _∙_}
-use mathlib.Core.Logic.{inl, inr}
 use mathlib.Core.Bool.{Bool, true, _&&_}
 use Prim.Native.Nat.{ℕ, zero, suc, _^_, _<_}
 use native.Mathlib.Omega.{arith}
@@ -10,8 +9,7 @@ use Rattle.rules.specs.Sets.{has, contains, without}
 use Rattle.rules.proofs.Lists.{and-parts}
 use Rattle.rules.proofs.Sets.{contains-refl, contains-trans, contains-empty, without-below}
 use Rattle.rules.proofs.Differences.{contains-without}
-use Rattle.rules.proofs.SetSizes.{size-mono}
-use Rattle.rules.proofs.SetColumns.{without-less, size-less}
+use Rattle.rules.proofs.SetColumns.{without-less}
 use Rattle.parts.specs.Parts.{Inside, Leans, whole, spared, LeanPart}
 
 -- a set that has a column and gains the same without it may be left out
@@ -49,15 +47,9 @@ part-with-all gain lean count s leans l b = upTo (suc s) s (omega arith) l b
     upTo (suc n) s m l b = go (leans s l) (upTo n)
       where
         go : Leans gain s (lean s) → ((t : ℕ) → t < n → t < count → t < 2 ^ 16 → LeanPart gain lean t) → LeanPart gain lean s
-        go (whole e) before = record { part = s; inside = inside-own s b; same = e; fewer = inl refl }
+        go (whole e) before = record { part = s; inside = inside-own s b; same = e }
         go (spared i k h same e) before =
             let rest = without s (2 ^ i) in
             let less = without-less s i b k h in
             let found = before rest (omega arith) (omega arith) (without-below s (2 ^ i)) in
-            let no-more = size-mono rest (found .part) (found .inside .small) (found .inside .within) in
-            record {
-              part = found .part;
-              inside = inside-rest s (2 ^ i) (found .part) (found .inside);
-              same = found .same ∙ same;
-              fewer = inr (omega (arith, no-more, size-less s i k h));
-            }
+            record { part = found .part; inside = inside-rest s (2 ^ i) (found .part) (found .inside); same = found .same ∙ same }

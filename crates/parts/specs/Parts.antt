@@ -1,11 +1,10 @@
 -- Two further tables over all sets of columns: what can still be gained within a set, and which sets have no column too many.
 use mathlib.Core.Path.{_≡_}
-use mathlib.Core.Logic.{_⊎_}
 use mathlib.Core.Bool.{true}
 use mathlib.Core.List.{List}
 use Prim.Native.Nat.{ℕ, _^_, _<_}
 use lib.ListN.{getD}
-use Rattle.rules.specs.Sets.{mostColumns, has, contains, size, without}
+use Rattle.rules.specs.Sets.{mostColumns, has, contains, without}
 
 -- the set lies within another, and is a number of 16 bits
 pub record Inside (around s : ℕ) : Type 0 where
@@ -26,12 +25,11 @@ pub data Leans (gain : ℕ → ℕ) (s gained : ℕ) : Type 0 where
   whole : gained ≡ gain s → Leans gain s gained
   spared : (i : ℕ) → i < mostColumns → has i s ≡ true → gain (without s (2 ^ i)) ≡ gain s → gained ≡ 0 → Leans gain s gained
 
--- a part of the set, the set itself or one with fewer columns, has in the other table what the set gains
+-- a part of the set, perhaps the set itself, has in the other table what the set gains
 pub record LeanPart (gain lean : ℕ → ℕ) (s : ℕ) : Type 0 where
   pub part : ℕ
   pub inside : Inside s part
   pub same : lean part ≡ gain s
-  pub fewer : (part ≡ s) ⊎ (size part < size s)
 
 -- within the free columns the other table has no set that gains less than it says, and as much as can be had
 pub record Leaned (gain lean : ℕ → ℕ) (free : ℕ) : Type 0 where

@@ -27,10 +27,11 @@ use Rattle.tables.specs.Tables.{blocks, Valued}
 use Rattle.tables.proofs.Blocks.{sets-within}
 use Rattle.tables.proofs.JobTables.{few-columns}
 use Rattle.parts.specs.Parts.{inTable}
+use Rattle.searching.specs.Prices.{priceOf}
 use Rattle.searching.specs.Searching.{Searched}
 use Rattle.planner.specs.Promises.{Plans}
 use Rattle.planner.proofs.Gains.{gains-columns}
-use Rattle.planner.proofs.BestSplits.{first-planned, none-correct}
+use Rattle.planner.proofs.BestSplits.{total-cost, first-planned, none-correct}
 
 -- ---- from what comes of the call to its promise
 
@@ -91,14 +92,15 @@ module _ (q : Numbers) (old : List ℕ) (l : Loaded) (e : l ≡ loaded q) where
           go (no h) = omega arith
 
       -- the same search, in the words of the job
-      in-words : (count : ℕ) (new : List ℕ) → Searched (inTable table) (full (l .job .columns)) (full (l .job .needs)) (l .job .needs) count old new
-          → Searched (inTable table) (full (job .columns)) (full (length (job .needs))) (length (job .needs)) count old new
+      in-words : (count : ℕ) (new : List ℕ)
+          → Searched (inTable table) priceOf (full (l .job .columns)) (full (l .job .needs)) (l .job .needs) count old new
+          → Searched (inTable table) priceOf (full (job .columns)) (full (length (job .needs))) (length (job .needs)) count old new
       in-words count new s =
-          subst (λ (n : ℕ). Searched (inTable table) (full n) (full (length (job .needs))) (length (job .needs)) count old new) same-columns
-          (subst (λ (m : ℕ). Searched (inTable table) (full (l .job .columns)) (full m) m count old new) (sym (meant .many)) s)
+          subst (λ (n : ℕ). Searched (inTable table) priceOf (full n) (full (length (job .needs))) (length (job .needs)) count old new) same-columns
+          (subst (λ (m : ℕ). Searched (inTable table) priceOf (full (l .job .columns)) (full m) m count old new) (sym (meant .many)) s)
 
       module _ (count : ℕ) (new : List ℕ)
-          (searched : Searched (inTable table) (full (l .job .columns)) (full (l .job .needs)) (l .job .needs) count old new) where
+          (searched : Searched (inTable table) priceOf (full (l .job .columns)) (full (l .job .needs)) (l .job .needs) count old new) where
         pub plans-none : l .job .needs < count → Plans q old (record { refusal = 9; count = 0 }) new
         plans-none h =
             let s = in-words count new searched in
@@ -110,7 +112,9 @@ module _ (q : Numbers) (old : List ℕ) (l : Loaded) (e : l ≡ loaded q) where
         pub plans-all : count ≤ l .job .needs → Plans q old (record { refusal = 0; count = count }) new
         plans-all h =
             let found = in-words count new searched .found (omega (arith, meant .many)) in
-            let best = first-planned job fewer fewer-needs (inTable table) valued count (found .cost) (found .split) (found .least) (found .first) in
+            let best =
+            first-planned job fewer fewer-needs (inTable table) valued priceOf (total-cost job) count (found .cost) (found .split) (found .least)
+            (found .first) in
             plans-planned q old (found .split) new count
             (planning-planned q old job (meant .known) room (found .split) (planned-plan job fewer (found .split) best)) (found .first .as-many)
             (found .laid)

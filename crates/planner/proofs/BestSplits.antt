@@ -9,7 +9,7 @@ use native.Mathlib.Decide.{decLt}
 use native.Mathlib.Omega.{arith}
 use lib.ListN.{length, getD}
 use borrow.Author.Tests.{ltb-true, lt-ltb}
-use Rattle.rules.specs.Sets.{has, full, size}
+use Rattle.rules.specs.Sets.{has, full}
 use Rattle.rules.specs.Needs.{Need, column, meets}
 use Rattle.rules.specs.Jobs.{Job, allowed}
 use Rattle.rules.specs.Conditions.{gain}
@@ -26,12 +26,13 @@ use Rattle.rules.proofs.Plans.{plan-planned, plan-exists}
 use Rattle.rules.proofs.Useful.{planned-few}
 use Rattle.parts.specs.Parts.{Inside}
 use Rattle.searching.specs.Serving.{Serves, total, Least, First}
+use Rattle.searching.specs.Prices.{priceOf}
 use Rattle.planner.proofs.Gains.{gained-need, need-gained, gains-allowed, gains-columns}
 use Rattle.planner.proofs.ServingSplits.{MetBy, serves-inside, serves-unlinked, serves-met, idle-spared, made-serves}
 
--- a set costs as much as it has columns
-pub total-cost : (job : Job) (split : List ℕ) → total size split ≡ cost job split
-unfolding total cost
+-- what the sets cost in the search is what they cost in the job
+pub total-cost : (job : Job) (split : List ℕ) → total priceOf split ≡ cost job split
+unfolding total cost priceOf
 total-cost job [] = refl
 total-cost job (s ∷ split) = ap₂ _+_ (sym (price-size job s)) (total-cost job split)
 
@@ -96,8 +97,9 @@ module _ (job : Job) (fewColumns : job .columns ≤ 16) (fewNeeds : length (job 
 
   -- ---- the best list
 
-  module _ (count lowest : ℕ) (split : List ℕ) (least : Least value size count (allColumns job) (allNeeds job) lowest)
-      (f : First value size count (allColumns job) (allNeeds job) lowest split) where
+  module _ (price : ℕ → ℕ) (priced : (split : List ℕ) → total price split ≡ cost job split) (count lowest : ℕ) (split : List ℕ)
+      (least : Least value price count (allColumns job) (allNeeds job) lowest)
+      (f : First value price count (allColumns job) (allNeeds job) lowest split) where
     inside : (s : ℕ) → List·Memᴰ s split → Inside (allColumns job) s
     inside = serves-inside value split (allColumns job) (allNeeds job) (f .serves)
 
@@ -122,7 +124,7 @@ module _ (job : Job) (fewColumns : job .columns ≤ 16) (fewNeeds : length (job 
         → notAfter split (rising other) ≡ true
     before-rising other c l e =
         f .first (rising other) (correct-serves (rising other) (correct-rising job other ∙ c)) (length-rising other ∙ sym l ∙ f .as-many)
-        (total-cost job (rising other) ∙ cost-rising job other ∙ sym e ∙ sym (total-cost job split) ∙ f .as-dear)
+        (priced (rising other) ∙ cost-rising job other ∙ sym e ∙ sym (priced split) ∙ f .as-dear)
 
     first-written : rising split ≡ split
     first-written = notAfter-antisym (rising split) split (rising-first split) (before-rising split first-right refl refl)
@@ -145,7 +147,7 @@ module _ (job : Job) (fewColumns : job .columns ≤ 16) (fewNeeds : length (job 
             dear many (yes h) = ahead-smaller (cost job split) (cost job other) _ _ h
             dear many (no h) =
                 let same : cost job split ≡ cost job other =
-                omega (arith, least .cheapest other serves (omega (arith, f .as-many)), f .as-dear, total-cost job split, total-cost job other) in
+                omega (arith, least .cheapest other serves (omega (arith, f .as-many)), f .as-dear, priced split, priced other) in
                 ahead-same (cost job split) (cost job other) _ _ same (rw first-written (before-rising other c many same))
 
     pub first-planned : Planned job split

@@ -1,4 +1,5 @@
 -- The laws that the proofs of searching share.
+pub mod Prices
 pub mod Serving
 pub mod Servables
 pub mod Firsts
@@ -7,5 +8,4 @@ pub mod Tasks
 pub mod Trying
 pub mod Nexts
 pub mod BestLists
-pub mod Totals
 pub mod WholeSearch

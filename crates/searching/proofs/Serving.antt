@@ -1,19 +1,22 @@
 -- Laws of sets taken one after the other, for any gain and any price. Assumes nothing.
 use mathlib.Core.Path.{_≡_, refl, sym, ap, subst, _∙_}
-use mathlib.Core.Logic.{_⊎_, inl, inr}
 use mathlib.Core.Bool.{Bool, true, false}
 use mathlib.Core.List.{List, [], _∷_}
 use Prim.Native.Nat.{ℕ, suc, _+_, _^_, _≤_, _<_}
+use native.Mathlib.Decide.{decLt}
 use native.Mathlib.Omega.{arith}
 use lib.ListN.{length}
-use Rattle.rules.specs.Sets.{has, contains, size, without}
+use Rattle.rules.specs.Sets.{has, contains, without}
+use Rattle.rules.specs.Plans.{notAfter}
 use Rattle.rules.proofs.Lists.{holds-fails}
+use Rattle.rules.proofs.Orders.{ahead-smaller, ahead-same}
 use Rattle.rules.proofs.SetBits.{has-empty}
-use Rattle.rules.proofs.Sets.{contains-trans, apart-sym, without-below}
+use Rattle.rules.proofs.Sets.{contains-trans, contains-le, apart-sym, without-below}
 use Rattle.rules.proofs.Differences.{contains-without, left-swap, more-left, less-taken, left-apart, apart-left, within-empty, has-left}
-use Rattle.parts.specs.Parts.{Inside, LeanPart, Leaned}
+use Rattle.parts.specs.Parts.{Inside, Leaned}
 use Rattle.parts.proofs.LeanSets.{inside-rest}
 use Rattle.searching.specs.Serving.{Serves, total}
+use Rattle.searching.proofs.Prices.{PriceOfParts, part-within}
 
 -- ---- sets that can be taken
 
@@ -89,6 +92,14 @@ module _ (gain : ℕ → ℕ) where
 
 -- ---- the sets with no column too many serve as well
 
+-- with a number put before it that is no greater, a list that comes no later still comes no later
+ahead-no-greater : (t s : ℕ) (list split : List ℕ) → t ≤ s → notAfter list split ≡ true → notAfter (t ∷ list) (s ∷ split) ≡ true
+ahead-no-greater t s list split l e = go (decLt t s)
+  where
+    go : Dec (t < s) → notAfter (t ∷ list) (s ∷ split) ≡ true
+    go (yes h) = ahead-smaller t s list split h
+    go (no h) = ahead-same t s list split (omega arith) e
+
 pub leaned-part : (gain lean : ℕ → ℕ) (free part : ℕ) → contains free part ≡ true → Leaned gain lean free → Leaned gain lean part
 leaned-part gain lean free part c l =
     record { no-more = λ s i. l .no-more s (inside-wider part free s c i); as-much = λ s i. l .as-much s (inside-wider part free s c i) }
@@ -105,22 +116,23 @@ module _ (gain lean : ℕ → ℕ) where
             (less-taken unmet (gain s) (lean s) (l .no-more s (e .0))) rest,
       )
 
-  -- as many sets, that cost no more, from the other table
+  -- as many sets from the other table, that cost no more and have the same numbers or, where they first differ, a smaller one
   pub record LeanList (price : ℕ → ℕ) (free unmet : ℕ) (split : List ℕ) : Type 0 where
     pub list : List ℕ
     pub serves : Serves lean free unmet list
     pub many : length list ≡ length split
     pub dear : total price list ≤ total price split
+    pub first : notAfter list split ≡ true
 
-  pub lean-serves : (price : ℕ → ℕ) → ((s t : ℕ) → Inside s t → price t ≤ price s) → (split : List ℕ) (free unmet : ℕ) → Leaned gain lean free
+  pub lean-serves : (price : ℕ → ℕ) → PriceOfParts price → (split : List ℕ) (free unmet : ℕ) → Leaned gain lean free
       → Serves gain free unmet split → LeanList price free unmet split
-  unfolding Serves total
-  lean-serves price mono [] free unmet l e = record { list = []; serves = e; many = refl; dear = omega arith }
-  lean-serves price mono (s ∷ split) free unmet l e =
+  unfolding Serves total notAfter
+  lean-serves price parts [] free unmet l e = record { list = []; serves = e; many = refl; dear = omega arith; first = refl }
+  lean-serves price parts (s ∷ split) free unmet l e =
       let found = l .as-much s (e .0) in
       let t : ℕ = found .part in
       let left = leaned-part gain lean free (without free s) (contains-without free s) l in
-      let rest = lean-serves price mono split (without free s) (without unmet (gain s)) left (e .1) in
+      let rest = lean-serves price parts split (without free s) (without unmet (gain s)) left (e .1) in
       record {
         list = t ∷ rest .list;
         serves = (
@@ -129,41 +141,6 @@ module _ (gain lean : ℕ → ℕ) where
               (subst (λ (g : ℕ). Serves lean (without free s) (without unmet g) (rest .list)) (sym (found .same)) (rest .serves)),
         );
         many = ap suc (rest .many);
-        dear = omega (arith, rest .dear, mono s t (found .inside));
+        dear = omega (arith, rest .dear, part-within price parts s t (found .inside));
+        first = ahead-no-greater t s (rest .list) split (contains-le s t (found .inside .small) (found .inside .within)) (rest .first);
       }
-
-  -- a cheapest list has no set with a column too many, so it serves by that table just as well
-  pub lean-exactly : (split : List ℕ) (free unmet : ℕ) → Leaned gain lean free
-      → ((other : List ℕ) → Serves gain free unmet other → length other ≡ length split → total size split ≤ total size other)
-      → Serves gain free unmet split → Serves lean free unmet split
-  unfolding Serves total
-  lean-exactly [] free unmet l cheap e = e
-  lean-exactly (s ∷ split) free unmet l cheap e =
-      let part = leaned-part gain lean free (without free s) (contains-without free s) l in
-      let cheaper : (other : List ℕ) → Serves gain (without free s) (without unmet (gain s)) other → length other ≡ length split
-      → total size split ≤ total size other =
-      λ other f m. omega (arith, cheap (s ∷ other) (e .0, f) (ap suc m)) in
-      let rest = lean-exactly split (without free s) (without unmet (gain s)) part cheaper (e .1) in
-      (e .0, subst (λ (g : ℕ). Serves lean (without free s) (without unmet g) split) (sym (whole (l .as-much s (e .0)))) rest)
-    where
-      whole : LeanPart gain lean s → lean s ≡ gain s
-      whole found = go (found .fewer)
-        where
-          t : ℕ
-          t = found .part
-
-          inside : Inside free t
-          inside = inside-wider s free t (e .0 .within) (found .inside)
-
-          more : contains (gain t) (gain s) ≡ true
-          more = subst (λ (g : ℕ). contains (gain t) g ≡ true) (found .same) (l .no-more t inside)
-
-          replaced : Serves gain (without free t) (without unmet (gain t)) split
-          replaced =
-              serves-wider gain split (without free s) (without free t) (without unmet (gain t)) (less-taken free s t (found .inside .within))
-              (serves-fewer gain split (without free s) (without unmet (gain s)) (without unmet (gain t)) (without-below unmet (gain t))
-              (less-taken unmet (gain t) (gain s) more) (e .1))
-
-          go : (t ≡ s) ⊎ (size t < size s) → lean s ≡ gain s
-          go (inl same) = ap lean (sym same) ∙ found .same
-          go (inr less) = absurd (omega (arith, cheap (t ∷ split) (inside, replaced) refl))

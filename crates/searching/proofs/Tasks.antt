@@ -4,17 +4,17 @@ use mathlib.Core.Bool.{Bool, false, _&&_}
 use Prim.Native.Nat.{ℕ, _-_, _^_, _<_}
 use lib.Bits.{bitAnd}
 use borrow.Author.Tests.{eq-eqb, ne-eqb}
-use Rattle.rules.specs.Sets.{contains, size, without}
+use Rattle.rules.specs.Sets.{contains, without}
 use Rattle.rules.proofs.Sets.{contains-bits, without-bits}
 use Rattle.columns.specs.declared.ColumnSet.{ColumnSet}
 use Rattle.searching.specs.Searching.{leftAfter}
 use Rattle.searching.specs.declared.serve.Task.{Task}
 
-pub task-left : (task : Task) (s gained : ℕ) (free : ColumnSet) (price : ℕ) → task .unmet < 2 ^ 16 → free .bits ≡ without (task .free .bits) s
-    → price ≡ size s
-    → record { extracts = task .extracts - 1; free = free; unmet = task .unmet - bitAnd (task .unmet) gained; cost = task .cost - price }
-    ≡ leftAfter task s gained
-task-left task s gained free price b f p =
+pub task-left : (price : ℕ → ℕ) (task : Task) (s gained : ℕ) (free : ColumnSet) (paid : ℕ) → task .unmet < 2 ^ 16
+    → free .bits ≡ without (task .free .bits) s → paid ≡ price s
+    → record { extracts = task .extracts - 1; free = free; unmet = task .unmet - bitAnd (task .unmet) gained; cost = task .cost - paid }
+    ≡ leftAfter price task s gained
+task-left price task s gained free paid b f p =
     λ i. record {
       extracts = task .extracts - 1;
       free = record { bits = f i };

@@ -7,7 +7,7 @@ use native.Mathlib.Omega.{arith}
 use lib.Dec.{leb}
 use lib.Bits.{bitAnd, and-le-l}
 use borrow.Author.Tests.{leb-true, le-leb}
-use Rattle.rules.specs.Sets.{contains, size, without}
+use Rattle.rules.specs.Sets.{contains, without}
 use Rattle.rules.proofs.Lists.{and-parts, and-both, holds-fails}
 use Rattle.rules.proofs.Sets.{contains-and}
 use Rattle.rules.proofs.Differences.{contains-without, next-within}
@@ -35,9 +35,9 @@ pub bounded-part : (lean possible : ℕ → ℕ) (free part : ℕ) → contains 
 bounded-part lean possible free part c b =
     record { nothing = b .nothing; bound = λ around s i j. b .bound around s (inside-wider part free around c i) j }
 
-pub less-to-do : (lean possible : ℕ → ℕ) (task rest : Task) (s gained many : ℕ) → rest ≡ leftAfter task s gained → (task .extracts ≡ 0 → ⊥)
-    → task .extracts ≡ many → Bounded lean possible (task .free .bits) → (rest .extracts < many) × Bounded lean possible (rest .free .bits)
-less-to-do lean possible task rest s gained many e left m b =
+pub less-to-do : (lean possible price : ℕ → ℕ) (task rest : Task) (s gained many : ℕ) → rest ≡ leftAfter price task s gained
+    → (task .extracts ≡ 0 → ⊥) → task .extracts ≡ many → Bounded lean possible (task .free .bits) → (rest .extracts < many) × Bounded lean possible (rest .free .bits)
+less-to-do lean possible price task rest s gained many e left m b =
     subst (λ (r : Task). (r .extracts < many) × Bounded lean possible (r .free .bits)) (sym e) (
       omega (arith, left, m),
       bounded-part lean possible (task .free .bits) (without (task .free .bits) s) (contains-without (task .free .bits) s) b,
@@ -45,31 +45,31 @@ less-to-do lean possible task rest s gained many e left m b =
 
 -- ---- answers without a trial
 
-module _ (lean : ℕ → ℕ) (task : Task) where
-  pub all-met : task .unmet ≡ 0 → Decides true (ServableFrom lean task)
+module _ (lean price : ℕ → ℕ) (task : Task) where
+  pub all-met : task .unmet ≡ 0 → Decides true (ServableFrom lean price task)
   all-met e =
-      granted (ServableFrom lean task) (nothing-unmet lean size (task .extracts) (task .free .bits) (task .unmet) (task .cost) e)
+      granted (ServableFrom lean price task) (nothing-unmet lean price (task .extracts) (task .free .bits) (task .unmet) (task .cost) e)
 
   module _ (some : task .unmet ≡ 0 → ⊥) where
-    pub none-left : task .extracts ≡ 0 → Decides false (ServableFrom lean task)
+    pub none-left : task .extracts ≡ 0 → Decides false (ServableFrom lean price task)
     none-left e =
-        refused (ServableFrom lean task) λ v.
-        some (no-set-left lean size (task .free .bits) (task .unmet) (task .cost)
-        (subst (λ (most : ℕ). Servable lean size most (task .free .bits) (task .unmet) (task .cost)) e v))
+        refused (ServableFrom lean price task) λ v.
+        some (no-set-left lean price (task .free .bits) (task .unmet) (task .cost)
+        (subst (λ (most : ℕ). Servable lean price most (task .free .bits) (task .unmet) (task .cost)) e v))
 
     pub not-possible : (possible : ℕ → ℕ) → task .free .bits < 2 ^ 16 → task .unmet < 2 ^ 16 → Bounded lean possible (task .free .bits)
-        → (bitAnd (possible (task .free .bits)) (task .unmet) ≡ task .unmet → ⊥) → Decides false (ServableFrom lean task)
+        → (bitAnd (possible (task .free .bits)) (task .unmet) ≡ task .unmet → ⊥) → Decides false (ServableFrom lean price task)
     not-possible possible b u bounded n =
-        refused (ServableFrom lean task) λ v.
+        refused (ServableFrom lean price task) λ v.
         n (contains-and (possible (task .free .bits)) (task .unmet) u
-        (within-possible lean size possible (task .extracts) (task .free .bits) (task .unmet) (task .cost) b bounded v))
+        (within-possible lean price possible (task .extracts) (task .free .bits) (task .unmet) (task .cost) b bounded v))
 
-module _ (lean : ℕ → ℕ) (task : Task) (wanted : ℕ) where
+module _ (lean price : ℕ → ℕ) (task : Task) (wanted : ℕ) where
   -- ---- what is known after so many sets
 
   -- the sets that would do
   abbrev pub Will : ℕ → Type 0
-  Will s = Suits lean size (task .extracts - 1) (task .free .bits) (task .unmet) (task .cost) wanted s
+  Will s = Suits lean price (task .extracts - 1) (task .free .bits) (task .unmet) (task .cost) wanted s
 
   -- none above the number would do, and the number itself is a set of the free columns
   pub record Tried (number : ℕ) : Type 0 where
@@ -80,7 +80,7 @@ module _ (lean : ℕ → ℕ) (task : Task) (wanted : ℕ) where
   tried-none b =
       record {
         inside = inside-own (task .free .bits) b;
-        none-above = none-above-all lean size (task .extracts - 1) (task .free .bits) (task .unmet) (task .cost) wanted;
+        none-above = none-above-all lean price (task .extracts - 1) (task .free .bits) (task .unmet) (task .cost) wanted;
       }
 
   pub tried-next : (number : ℕ) → Tried number → (Will number → ⊥) → Tried (bitAnd (number - 1) (task .free .bits))
@@ -90,22 +90,23 @@ module _ (lean : ℕ → ℕ) (task : Task) (wanted : ℕ) where
           small = lt-of-le-of-lt (and-le-l (number - 1) (task .free .bits)) (omega (arith, t .inside .small));
           within = next-within (task .free .bits) (number - 1);
         };
-        none-above = none-above-next lean size (task .extracts - 1) (task .free .bits) (task .unmet) (task .cost) wanted number (t .inside)
+        none-above = none-above-next lean price (task .extracts - 1) (task .free .bits) (task .unmet) (task .cost) wanted number (t .inside)
             (t .none-above) n;
       }
 
-  pub suitable-payable : (s : ℕ) → (contains (lean s) wanted && leb (size s) (task .cost)) ≡ true → size s ≤ task .cost
-  suitable-payable s e = leb-true (size s) (task .cost) (and-parts (contains (lean s) wanted) (leb (size s) (task .cost)) e .1)
+  pub suitable-payable : (s : ℕ) → (contains (lean s) wanted && leb (price s) (task .cost)) ≡ true → price s ≤ task .cost
+  suitable-payable s e = leb-true (price s) (task .cost) (and-parts (contains (lean s) wanted) (leb (price s) (task .cost)) e .1)
 
   -- a set that does not suit would not do; nor one that leaves what can't be served
-  pub not-suitable : (s : ℕ) → (contains (lean s) wanted && leb (size s) (task .cost)) ≡ false → Will s → ⊥
+  pub not-suitable : (s : ℕ) → (contains (lean s) wanted && leb (price s) (task .cost)) ≡ false → Will s → ⊥
   not-suitable s e w =
-      holds-fails (contains (lean s) wanted && leb (size s) (task .cost))
-      (and-both (contains (lean s) wanted) (leb (size s) (task .cost)) (w .meets) (le-leb (size s) (task .cost) (w .payable))) e
+      holds-fails (contains (lean s) wanted && leb (price s) (task .cost))
+      (and-both (contains (lean s) wanted) (leb (price s) (task .cost)) (w .meets) (le-leb (price s) (task .cost) (w .payable))) e
 
-  pub not-served : (s : ℕ) (rest : Task) → rest ≡ leftAfter task s (lean s) → (found : Bool) → Decides found (ServableFrom lean rest) → found ≡ false
-      → Will s → ⊥
-  not-served s rest l found d e w = denied (ServableFrom lean rest) found d e (subst (λ (r : Task). ServableFrom lean r) (sym l) (w .rest))
+  pub not-served : (s : ℕ) (rest : Task) → rest ≡ leftAfter price task s (lean s) → (found : Bool) → Decides found (ServableFrom lean price rest)
+      → found ≡ false → Will s → ⊥
+  not-served s rest l found d e w =
+      denied (ServableFrom lean price rest) found d e (subst (λ (r : Task). ServableFrom lean price r) (sym l) (w .rest))
 
   -- ---- the answer
 
@@ -113,25 +114,25 @@ module _ (lean : ℕ → ℕ) (task : Task) (wanted : ℕ) where
   some-left left = omega (arith, left)
 
   pub found-one : (task .extracts ≡ 0 → ⊥) → (s : ℕ) → Inside (task .free .bits) s
-      → (contains (lean s) wanted && leb (size s) (task .cost)) ≡ true → (rest : Task) → rest ≡ leftAfter task s (lean s)
-      → (found : Bool) → Decides found (ServableFrom lean rest) → found ≡ true → Decides found (ServableFrom lean task)
+      → (contains (lean s) wanted && leb (price s) (task .cost)) ≡ true → (rest : Task) → rest ≡ leftAfter price task s (lean s)
+      → (found : Bool) → Decides found (ServableFrom lean price rest) → found ≡ true → Decides found (ServableFrom lean price task)
   found-one left s i e rest l found d f =
-      let p = and-parts (contains (lean s) wanted) (leb (size s) (task .cost)) e in
+      let p = and-parts (contains (lean s) wanted) (leb (price s) (task .cost)) e in
       let w : Will s =
       record {
         inside = i;
         meets = p .0;
-        payable = leb-true (size s) (task .cost) (p .1);
-        rest = subst (λ (r : Task). ServableFrom lean r) l (d .sound f);
+        payable = leb-true (price s) (task .cost) (p .1);
+        rest = subst (λ (r : Task). ServableFrom lean price r) l (d .sound f);
       } in
-      subst (λ (b : Bool). Decides b (ServableFrom lean task)) (sym f) (granted (ServableFrom lean task)
-      (subst (λ (most : ℕ). Servable lean size most (task .free .bits) (task .unmet) (task .cost)) (some-left left)
-      (suits-served lean size (task .extracts - 1) (task .free .bits) (task .unmet) (task .cost) wanted s w)))
+      subst (λ (b : Bool). Decides b (ServableFrom lean price task)) (sym f) (granted (ServableFrom lean price task)
+      (subst (λ (most : ℕ). Servable lean price most (task .free .bits) (task .unmet) (task .cost)) (some-left left)
+      (suits-served lean price (task .extracts - 1) (task .free .bits) (task .unmet) (task .cost) wanted s w)))
 
   pub found-none : (task .unmet ≡ 0 → ⊥) → (task .extracts ≡ 0 → ⊥) → lean 0 ≡ 0 → wanted < 2 ^ 16 → Wanted (task .extracts) (task .unmet) wanted
-      → Tried 0 → Decides false (ServableFrom lean task)
+      → Tried 0 → Decides false (ServableFrom lean price task)
   found-none some left empty b w t =
-      refused (ServableFrom lean task) λ v.
-      none-serves lean size (task .extracts - 1) (task .free .bits) (task .unmet) (task .cost) wanted empty some b
+      refused (ServableFrom lean price task) λ v.
+      none-serves lean price (task .extracts - 1) (task .free .bits) (task .unmet) (task .cost) wanted empty some b
       (subst (λ (most : ℕ). Wanted most (task .unmet) wanted) (sym (some-left left)) w) (t .none-above)
-      (subst (λ (most : ℕ). Servable lean size most (task .free .bits) (task .unmet) (task .cost)) (sym (some-left left)) v)
+      (subst (λ (most : ℕ). Servable lean price most (task .free .bits) (task .unmet) (task .cost)) (sym (some-left left)) v)

@@ -1,4 +1,4 @@
--- What the steps of the search ask and leave behind.
+-- What the steps of the search ask and leave behind, for any gain and any price.
 use mathlib.Core.Path.{_≡_}
 use mathlib.Core.Logic.{_⊎_}
 use mathlib.Core.Bool.{true}
@@ -6,22 +6,22 @@ use mathlib.Core.List.{List}
 use Prim.Native.Nat.{ℕ, _+_, _-_, _^_, _≤_, _<_}
 use lib.ListN.{length}
 use Rattle.rules.specs.Lists.{written}
-use Rattle.rules.specs.Sets.{has, size, without}
+use Rattle.rules.specs.Sets.{has, without}
 use Rattle.searching.specs.Serving.{Serves, Servable, Least, First, Completes}
 use Rattle.searching.specs.declared.serve.Task.{Task}
 
--- the task can be done; a set costs as much as it has columns
-abbrev pub ServableFrom : (ℕ → ℕ) → Task → Type 0
-ServableFrom gain task = Servable gain size (task .extracts) (task .free .bits) (task .unmet) (task .cost)
+-- the task can be done
+abbrev pub ServableFrom : (gain price : ℕ → ℕ) → Task → Type 0
+ServableFrom gain price task = Servable gain price (task .extracts) (task .free .bits) (task .unmet) (task .cost)
 
 -- what is left to do when a set is taken that meets these needs
-abbrev pub leftAfter : Task → ℕ → ℕ → Task
-leftAfter task s gained =
+abbrev pub leftAfter : (price : ℕ → ℕ) → Task → ℕ → ℕ → Task
+leftAfter price task s gained =
     record {
       extracts = task .extracts - 1;
       free = record { bits = without (task .free .bits) s };
       unmet = without (task .unmet) gained;
-      cost = task .cost - size s;
+      cost = task .cost - price s;
     }
 
 -- the needs that a set must meet to be tried: all of them if it is the last, else any one
@@ -34,57 +34,57 @@ pub record Rarer (unmet found need rarer : ℕ) : Type 0 where
   pub some : has need unmet ≡ true → rarer < 8
 
 -- the set is the next of a best list
-abbrev pub Next : (ℕ → ℕ) → Task → ℕ → Type 0
-Next gain task s = Completes gain size (task .extracts - 1) (task .free .bits) (task .unmet) (task .cost) s
+abbrev pub Next : (gain price : ℕ → ℕ) → Task → ℕ → Type 0
+Next gain price task s = Completes gain price (task .extracts - 1) (task .free .bits) (task .unmet) (task .cost) s
 
 -- a best list goes on with a set from a number on
-pub record SomeNext (gain : ℕ → ℕ) (task : Task) (from : ℕ) : Type 0 where
+pub record SomeNext (gain price : ℕ → ℕ) (task : Task) (from : ℕ) : Type 0 where
   pub left : 0 < task .extracts
   pub set : ℕ
   pub later : from ≤ set
-  pub next : Next gain task set
+  pub next : Next gain price task set
 
 -- the first such set from a number on
-pub record FirstNext (gain : ℕ → ℕ) (task : Task) (from s : ℕ) : Type 0 where
-  pub next : Next gain task s
+pub record FirstNext (gain price : ℕ → ℕ) (task : Task) (from s : ℕ) : Type 0 where
+  pub next : Next gain price task s
   pub later : from ≤ s
-  pub none-before : (t : ℕ) → from ≤ t → t < s → Next gain task t → ⊥
+  pub none-before : (t : ℕ) → from ≤ t → t < s → Next gain price task t → ⊥
 
 -- nothing less will do
-abbrev pub LeastFrom : (ℕ → ℕ) → Task → Type 0
-LeastFrom gain task = Least gain size (task .extracts) (task .free .bits) (task .unmet) (task .cost)
+abbrev pub LeastFrom : (gain price : ℕ → ℕ) → Task → Type 0
+LeastFrom gain price task = Least gain price (task .extracts) (task .free .bits) (task .unmet) (task .cost)
 
 -- the first of the lists that do
-abbrev pub FirstFrom : (ℕ → ℕ) → Task → List ℕ → Type 0
-FirstFrom gain task split = First gain size (task .extracts) (task .free .bits) (task .unmet) (task .cost) split
+abbrev pub FirstFrom : (gain price : ℕ → ℕ) → Task → List ℕ → Type 0
+FirstFrom gain price task split = First gain price (task .extracts) (task .free .bits) (task .unmet) (task .cost) split
 
 -- the best list has been written over the first places
-pub record Taken (gain : ℕ → ℕ) (task : Task) (old new : List ℕ) : Type 0 where
+pub record Taken (gain price : ℕ → ℕ) (task : Task) (old new : List ℕ) : Type 0 where
   pub split : List ℕ
-  pub first : FirstFrom gain task split
+  pub first : FirstFrom gain price task split
   pub laid : new ≡ written split old
 
 -- the least number of sets up to a most that serve, or one more than the most
-pub record Fewest (gain : ℕ → ℕ) (most free unmet count : ℕ) : Type 0 where
+pub record Fewest (gain price : ℕ → ℕ) (most free unmet count : ℕ) : Type 0 where
   pub near : count ≤ most + 1
-  pub servable : count ≤ most → Servable gain size count free unmet (size free)
-  pub none-below : (fewer : ℕ) → fewer < count → Servable gain size fewer free unmet (size free) → ⊥
+  pub servable : count ≤ most → Servable gain price count free unmet (price free)
+  pub none-below : (fewer : ℕ) → fewer < count → Servable gain price fewer free unmet (price free) → ⊥
 
 -- the least cost at which so many sets serve
-pub record Cheapest (gain : ℕ → ℕ) (count free unmet cost : ℕ) : Type 0 where
-  pub servable : Servable gain size count free unmet cost
-  pub none-below : (less : ℕ) → less < cost → Servable gain size count free unmet less → ⊥
+pub record Cheapest (gain price : ℕ → ℕ) (count free unmet cost : ℕ) : Type 0 where
+  pub servable : Servable gain price count free unmet cost
+  pub none-below : (less : ℕ) → less < cost → Servable gain price count free unmet less → ⊥
 
 -- the best list of all that serve, written over the first places
-pub record Found (gain : ℕ → ℕ) (free unmet count : ℕ) (old new : List ℕ) : Type 0 where
+pub record Found (gain price : ℕ → ℕ) (free unmet count : ℕ) (old new : List ℕ) : Type 0 where
   pub cost : ℕ
   pub split : List ℕ
-  pub least : Least gain size count free unmet cost
-  pub first : First gain size count free unmet cost split
+  pub least : Least gain price count free unmet cost
+  pub first : First gain price count free unmet cost split
   pub laid : new ≡ written split old
 
 -- what the whole search leaves: the best list, or one more than the most sets where no list of so few serves
-pub record Searched (gain : ℕ → ℕ) (free unmet most count : ℕ) (old new : List ℕ) : Type 0 where
-  pub found : count ≤ most → Found gain free unmet count old new
+pub record Searched (gain price : ℕ → ℕ) (free unmet most count : ℕ) (old new : List ℕ) : Type 0 where
+  pub found : count ≤ most → Found gain price free unmet count old new
   pub none : most < count → (other : List ℕ) → Serves gain free unmet other → most < length other
   pub stays : most < count → new ≡ old

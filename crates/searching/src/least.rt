@@ -4,9 +4,9 @@ use crate::serve::Task;
 use columns::ALL_SETS;
 use columns::ColumnSet;
 ghost use Prim.Native.Nat.{_≤_};
-ghost use Rattle.rules.specs.Sets.{size};
-ghost use Rattle.searching.specs.Serving.{Servable};
 ghost use Rattle.parts.specs.Parts.{inTable, Bounded};
+ghost use Rattle.searching.specs.Serving.{Servable};
+ghost use Rattle.searching.specs.Prices.{priceOf};
 ghost use Rattle.searching.specs.Searching.{Fewest, Cheapest};
 
 // The least number of sets, each more being tried in turn; one more than there are needs if so many don't serve.
@@ -19,7 +19,7 @@ pub fn fewest(
     unmet: u8,
 ) -> u16
     requires { ⌜ (needs ≤ 8) × Bounded (inTable (now lean)) (inTable (now possible)) (free .bits) ⌝ }
-    ensures { λ r. ⌜ Fewest (inTable (now (lean .entry))) needs (free .bits) unmet r ⌝ }
+    ensures { λ r. ⌜ Fewest (inTable (now (lean .entry))) priceOf needs (free .bits) unmet r ⌝ }
 {
     let cost = serve::price(free);
     let mut extracts = 0;
@@ -38,7 +38,7 @@ pub fn fewest(
     extracts
 }
 
-// The least cost of so many sets, by halving: it lies from `low` to `high`.
+// The least cost of so many sets, by halving: it lies from `low` to `high`. The middle is reached from `low`, so no sum wraps, whatever sets cost.
 pub fn cheapest(
     lean: &[u8; ALL_SETS],
     possible: &[u8; ALL_SETS],
@@ -47,13 +47,14 @@ pub fn cheapest(
     free: ColumnSet,
     unmet: u8,
 ) -> u32
-    requires { ⌜ Bounded (inTable (now lean)) (inTable (now possible)) (free .bits) × Servable (inTable (now lean)) size extracts (free .bits) unmet (size (free .bits)) ⌝ }
-    ensures { λ r. ⌜ Cheapest (inTable (now (lean .entry))) extracts (free .bits) unmet r ⌝ }
+    requires { ⌜ Bounded (inTable (now lean)) (inTable (now possible)) (free .bits)
+        × Servable (inTable (now lean)) priceOf extracts (free .bits) unmet (priceOf (free .bits)) ⌝ }
+    ensures { λ r. ⌜ Cheapest (inTable (now (lean .entry))) priceOf extracts (free .bits) unmet r ⌝ }
 {
     let mut low = 0;
     let mut high = serve::price(free);
     while low < high {
-        let middle = (low + high) / 2;
+        let middle = low + (high - low) / 2;
         let task = Task {
             extracts,
             free,

@@ -1,5 +1,5 @@
-// The best list of sets that meet all needs: the fewest sets, then the fewest columns, then the smallest numbers. Which needs a set meets is said
-// by a table; nothing here looks at a job.
+// The best list of sets that meet all needs: the fewest sets, then the least cost, then the smallest numbers. Which needs a set meets is said
+// by a table, and what it costs by `serve::price`; nothing here looks at a job.
 use columns::ALL_SETS;
 use columns::ColumnSet;
 use serve::Task;
@@ -14,12 +14,14 @@ ghost use Prim.Native.Nat.{_≤_};
 ghost use lib.ListN.{length};
 ghost use Rattle.rules.specs.Sets.{full};
 ghost use Rattle.parts.specs.Parts.{inTable};
+ghost use Rattle.searching.specs.Prices.{priceOf};
 ghost use Rattle.searching.specs.Searching.{Searched};
 
 // Writes the best list over the first places and answers how many sets it has; one more than there are needs if no list meets them all.
 pub fn best(gains: &[u8; ALL_SETS], columns: u16, needs: u16, extracts: &mut [u16]) -> u16
     requires { ⌜ (columns ≤ 16) × (needs ≤ 8) × (needs ≤ length (now extracts)) × (inTable (now gains) 0 ≡ 0) ⌝ }
-    ensures { λ r. ⌜ Searched (inTable (now (gains .entry))) (full columns) (full needs) needs r (now (extracts .entry)) (now (extracts .exit)) ⌝ }
+    ensures { λ r. ⌜ Searched (inTable (now (gains .entry))) priceOf (full columns) (full needs) needs r
+        (now (extracts .entry)) (now (extracts .exit)) ⌝ }
 {
     let mut lean = [0u8; ALL_SETS];
     let mut possible = [0u8; ALL_SETS];

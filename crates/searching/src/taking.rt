@@ -6,8 +6,9 @@ use columns::ALL_SETS;
 use columns::ColumnSet;
 ghost use Prim.Native.Nat.{_≤_, _<_};
 ghost use lib.ListN.{length};
-ghost use Rattle.searching.specs.Serving.{Decides};
 ghost use Rattle.parts.specs.Parts.{inTable, Bounded};
+ghost use Rattle.searching.specs.Serving.{Decides};
+ghost use Rattle.searching.specs.Prices.{priceOf};
 ghost use Rattle.searching.specs.Searching.{Next, SomeNext, FirstNext, LeastFrom, Taken};
 
 // Whether the set meets an unmet need and leaves what the further sets can serve. The test of the cost stands before the search.
@@ -19,7 +20,7 @@ fn is_next(
     set: ColumnSet,
 ) -> bool
     requires { ⌜ (0 < task .extracts) × Bounded (inTable (now lean)) (inTable (now possible)) (task .free .bits) ⌝ }
-    ensures { λ r. ⌜ Decides r (Next (inTable (now (lean .entry))) task (set .bits)) ⌝ }
+    ensures { λ r. ⌜ Decides r (Next (inTable (now (lean .entry))) priceOf task (set .bits)) ⌝ }
 {
     let gained = lean[set.bits as usize];
     if gained & task.unmet == 0 {
@@ -42,8 +43,8 @@ fn next(
     task: Task,
     from: usize,
 ) -> usize
-    requires { ⌜ SomeNext (inTable (now lean)) task from × Bounded (inTable (now lean)) (inTable (now possible)) (task .free .bits) ⌝ }
-    ensures { λ r. ⌜ FirstNext (inTable (now (lean .entry))) task from r ⌝ }
+    requires { ⌜ SomeNext (inTable (now lean)) priceOf task from × Bounded (inTable (now lean)) (inTable (now possible)) (task .free .bits) ⌝ }
+    ensures { λ r. ⌜ FirstNext (inTable (now (lean .entry))) priceOf task from r ⌝ }
 {
     let mut number = from;
     while number < ALL_SETS {
@@ -66,8 +67,9 @@ pub fn take(
     all: Task,
     extracts: &mut [u16],
 )
-    requires { ⌜ (all .extracts ≤ length (now extracts)) × LeastFrom (inTable (now lean)) all × Bounded (inTable (now lean)) (inTable (now possible)) (all .free .bits) ⌝ }
-    ensures { λ _. ⌜ Taken (inTable (now (lean .entry))) all (now (extracts .entry)) (now (extracts .exit)) ⌝ }
+    requires { ⌜ (all .extracts ≤ length (now extracts)) × LeastFrom (inTable (now lean)) priceOf all
+        × Bounded (inTable (now lean)) (inTable (now possible)) (all .free .bits) ⌝ }
+    ensures { λ _. ⌜ Taken (inTable (now (lean .entry))) priceOf all (now (extracts .entry)) (now (extracts .exit)) ⌝ }
 {
     let mut task = all;
     let mut from = 0;

@@ -4,6 +4,8 @@ use mathlib.Core.Path.{_≡_, sym, subst, _∙_}
 use Prim.Native.Nat.{ℕ, _-_, _*_, _%_, _^_}
 use Rattle.rules.specs.Sets.{full as fullOf}
 use Rattle.parts.specs.Parts.{inTable, Tabled}
+use Rattle.searching.specs.Prices.{priceOf}
+use Rattle.searching.proofs.Prices.{priced-parts}
 use Rattle.searching.proofs.WholeSearch.{all-columns, all-needs, needs-fit, found-least, searched-none, searched-found}
 use borrow.Author.Needs.{needs}
 use Rattle.searching.proofs.best.Statement.{statement}
@@ -53,7 +55,7 @@ returns c =
     let tabled : Tabled gain lean possible (full .result .bits) = subst (λ (f : ℕ). Tabled gain lean possible f) (sym all) (fill .ensures) in
     let unmet : ℕ = 1 * 2 ^ a .needs % 65536 - 1 in
     let fewest = c .before .fewest in
-    searched-none gain lean (full .result .bits) unmet (tabled .leaned) (a .columns) (a .needs) (a .needs) (fewest .result) all (all-needs (a .needs) (s .pre .1)) (fewest .ensures) (c .if1 .taken)
+    searched-none gain lean priceOf priced-parts (full .result .bits) unmet (tabled .leaned) (a .columns) (a .needs) (a .needs) (fewest .result) all (all-needs (a .needs) (s .pre .1)) (fewest .ensures) (c .if1 .taken)
     (a .extracts .now)
 
 cheapest-requires : tie.Need-cheapest-requires
@@ -83,7 +85,7 @@ take-requires c κs =
     let unmet : ℕ = 1 * 2 ^ a .needs % 65536 - 1 in
     let fewest = c .before .before .before .before .before .before .before .before .before .fewest in
     let cheapest = c .before .before .before .before .cheapest in
-    (omega (arith, c .before .before .before .before .before .before .before .before .if1 .left, s .pre .2), found-least lean (full .result .bits) unmet (a .needs) (fewest .result) (fewest .ensures) (cheapest .result) (cheapest .ensures), tabled .bounded)
+    (omega (arith, c .before .before .before .before .before .before .before .before .if1 .left, s .pre .2), found-least lean priceOf priced-parts (full .result .bits) unmet (a .needs) (fewest .result) (fewest .ensures) (cheapest .result) (cheapest .ensures), tabled .bounded)
 
 same-length : tie.Need-same-length
 same-length c = search needs
@@ -103,7 +105,7 @@ returns-2 c =
     let fewest = c .before .before .before .before .before .before .before .before .before .before .before .before .fewest in
     let cheapest = c .before .before .before .before .before .before .before .cheapest in
     let take = c .before .before .take in
-    searched-found gain lean (full .result .bits) unmet (tabled .leaned) (a .columns) (a .needs) (a .needs) (fewest .result) all (all-needs (a .needs) (s .pre .1)) (fewest .ensures) (c .before .before .before .before .before .before .before .before .before .before .before .if1 .left)
+    searched-found gain lean priceOf priced-parts (full .result .bits) unmet (tabled .leaned) (a .columns) (a .needs) (a .needs) (fewest .result) all (all-needs (a .needs) (s .pre .1)) (fewest .ensures) (c .before .before .before .before .before .before .before .before .before .before .before .if1 .left)
     (cheapest .result) (cheapest .ensures) (a .extracts .now) (take .last .1 .1 .1 .1 .0) (take .ensures)
 
 pub best-spec : {M : Type 1} → statement M

@@ -2,10 +2,9 @@
 use mathlib.Core.Path.{sym, subst}
 use Prim.Native.Nat.{ℕ, _+_, _-_, _/_, _≤_, _<_}
 use native.Mathlib.Omega.{arith}
-use Rattle.rules.specs.Sets.{size}
-use Rattle.rules.proofs.SetSizes.{size-le}
 use Rattle.parts.specs.Parts.{inTable}
 use Rattle.searching.specs.Serving.{Servable}
+use Rattle.searching.specs.Prices.{priceOf}
 use Rattle.searching.proofs.Servables.{servable-dearer}
 use Rattle.searching.proofs.Trying.{denied}
 use borrow.Author.Needs.{needs}
@@ -14,8 +13,8 @@ use Rattle.searching.proofs.least.cheapest.Tie as tie
 
 abbrev Inv-loop : tie.InvT-loop
 Inv-loop lean possible counts extracts free unmet low₀ high₀ low high =
-    (low ≤ high) × Servable (inTable lean) size extracts (free .bits) unmet high
-    × ((less : ℕ) → less < low → Servable (inTable lean) size extracts (free .bits) unmet less → ⊥) × (high ≤ 16)
+    (low ≤ high) × Servable (inTable lean) priceOf extracts (free .bits) unmet high
+    × ((less : ℕ) → less < low → Servable (inTable lean) priceOf extracts (free .bits) unmet less → ⊥) × (high ≤ high₀)
 
 abbrev μ-loop : tie.MeasureT-loop
 μ-loop lean possible counts extracts free unmet low₀ high₀ low high = high - low
@@ -27,10 +26,13 @@ loop-holds : tie.Need-loop-holds Inv-loop μ-loop
 loop-holds c =
     let s = c .before in (
       omega arith,
-      subst (λ (cost : ℕ). Servable (inTable (s .args .lean .now)) size (s .args .extracts) (s .args .free .bits) (s .args .unmet) cost) (sym (c .price .ensures)) (s .pre .1),
+      subst (λ (cost : ℕ). Servable (inTable (s .args .lean .now)) priceOf (s .args .extracts) (s .args .free .bits) (s .args .unmet) cost) (sym (c .price .ensures)) (s .pre .1),
       (λ less l v. absurd (omega arith)),
-      omega (arith, c .price .ensures, size-le 16 (s .args .free .bits) (omega arith) (omega arith)),
+      omega arith,
     )
+
+sub-middle : tie.Need-sub-middle Inv-loop μ-loop
+sub-middle c = search needs
 
 add-middle : tie.Need-add-middle Inv-loop μ-loop
 add-middle c = search needs
@@ -56,12 +58,12 @@ loop-again-2 : tie.Need-loop-again-2 Inv-loop μ-loop
 loop-again-2 c =
     let s = c .before .before .before .before .before in
     let l = c .before .before .before .loop in
-    let middle : ℕ = (l .low + l .high) / 2 in (
+    let middle : ℕ = l .low + (l .high - l .low) / 2 in (
       omega arith,
       l .inv .1,
       (λ less h v.
           denied _ (c .before .can .result) (c .before .can .ensures) (c .if1 .left)
-          (servable-dearer (inTable (s .args .lean .now)) size (s .args .extracts) (s .args .free .bits) (s .args .unmet) less middle (omega arith) v)),
+          (servable-dearer (inTable (s .args .lean .now)) priceOf (s .args .extracts) (s .args .free .bits) (s .args .unmet) less middle (omega arith) v)),
       l .inv .3,
     )
 
@@ -78,6 +80,7 @@ cheapest-spec =
     μ-loop
     price-requires
     loop-holds
+    sub-middle
     add-middle
     can-requires
     loop-less

@@ -3,9 +3,9 @@ use mathlib.Core.Path.{sym, subst}
 use Prim.Native.Nat.{ℕ, _+_, _-_, _≤_, _<_}
 use native.Mathlib.Omega.{arith}
 use borrow.Author.Count.{below-more}
-use Rattle.rules.specs.Sets.{size}
 use Rattle.parts.specs.Parts.{inTable}
 use Rattle.searching.specs.Serving.{Servable}
+use Rattle.searching.specs.Prices.{priceOf}
 use Rattle.searching.proofs.Trying.{denied}
 use borrow.Author.Needs.{needs}
 use Rattle.searching.proofs.least.fewest.Statement.{statement}
@@ -13,7 +13,7 @@ use Rattle.searching.proofs.least.fewest.Tie as tie
 
 abbrev Inv-loop : tie.InvT-loop
 Inv-loop lean possible counts needs free unmet cost extracts₀ extracts =
-    (extracts ≤ needs + 1) × ((fewer : ℕ) → fewer < extracts → Servable (inTable lean) size fewer (free .bits) unmet (size (free .bits)) → ⊥)
+    (extracts ≤ needs + 1) × ((fewer : ℕ) → fewer < extracts → Servable (inTable lean) priceOf fewer (free .bits) unmet (priceOf (free .bits)) → ⊥)
 
 abbrev μ-loop : tie.MeasureT-loop
 μ-loop lean possible counts needs free unmet cost extracts₀ extracts = needs + 1 - extracts
@@ -34,7 +34,7 @@ returns c =
     let price = c .before .before .before .before .price in
     record {
       near = l .inv .0;
-      servable = λ few. subst (λ (cost : ℕ). Servable (inTable (s .args .lean .now)) size (l .extracts) (s .args .free .bits) (s .args .unmet) cost) (price .ensures) (c .before .can .ensures .sound (c .if1 .taken));
+      servable = λ few. subst (λ (cost : ℕ). Servable (inTable (s .args .lean .now)) priceOf (l .extracts) (s .args .free .bits) (s .args .unmet) cost) (price .ensures) (c .before .can .ensures .sound (c .if1 .taken));
       none-below = l .inv .1;
     }
 
@@ -49,11 +49,11 @@ loop-again c =
     let s = c .before .before .before .before .before in
     let l = c .before .before .before .loop in
     let price = c .before .before .before .before .price in
-    let served : ℕ → Type 0 = λ fewer. Servable (inTable (s .args .lean .now)) size fewer (s .args .free .bits) (s .args .unmet) (size (s .args .free .bits)) in (
+    let served : ℕ → Type 0 = λ fewer. Servable (inTable (s .args .lean .now)) priceOf fewer (s .args .free .bits) (s .args .unmet) (priceOf (s .args .free .bits)) in (
       omega arith,
       below-more (λ fewer. served fewer → ⊥) (l .extracts) (l .inv .1) (λ v.
           denied _ (c .before .can .result) (c .before .can .ensures) (c .if1 .left)
-          (subst (λ (cost : ℕ). Servable (inTable (s .args .lean .now)) size (l .extracts) (s .args .free .bits) (s .args .unmet) cost) (sym (price .ensures)) v)),
+          (subst (λ (cost : ℕ). Servable (inTable (s .args .lean .now)) priceOf (l .extracts) (s .args .free .bits) (s .args .unmet) cost) (sym (price .ensures)) v)),
     )
 
 returns-2 : tie.Need-returns-2 Inv-loop μ-loop

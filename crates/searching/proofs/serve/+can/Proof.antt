@@ -8,6 +8,7 @@ use borrow.Author.Needs.{needs}
 use borrow.Fn.Kinds.{In}
 use borrow.Fn.PlainCycle.{Measures, is, falls, and}
 use Rattle.parts.specs.Parts.{inTable}
+use Rattle.searching.specs.Prices.{priceOf}
 use Rattle.searching.proofs.Trying.{all-met, none-left, not-possible, less-to-do, Tried, tried-none, tried-next, suitable-payable, not-suitable, not-served, found-one, found-none}
 use Rattle.searching.proofs.serve.can.Reads as can
 use Rattle.searching.proofs.serve.can.Kinds as can-kinds
@@ -31,7 +32,7 @@ abbrev can-claims : ℕ → can-lts.Claims
 can-claims t = (wanted-reads.Asked, wanted-reads.Learnt, suits-reads.Asked, suits-reads.Learnt, after-reads.Asked, after-reads.Learnt, can-below t, can.Post)
 
 abbrev can-Inv-loop : can-lts.InvT-loop
-can-Inv-loop lean possible counts task free wanted bits₀ bits = Tried (inTable lean) task wanted bits
+can-Inv-loop lean possible counts task free wanted bits₀ bits = Tried (inTable lean) priceOf task wanted bits
 
 abbrev can-μ-loop : can-lts.MeasureT-loop
 can-μ-loop lean possible counts task free wanted bits₀ bits = bits
@@ -41,14 +42,14 @@ can-returns t c =
     let s = c .before .before in
     let lean = inTable (s .args .lean .now) in
     let task = s .args .task in
-    all-met lean task (c .if1 .taken)
+    all-met lean priceOf task (c .if1 .taken)
 
 can-returns-2 : (t : ℕ) → can-lts.Need-returns-2 (can-claims t) (can-at t) can.Post can-Inv-loop can-μ-loop
 can-returns-2 t c =
     let s = c .before .before .before .before in
     let lean = inTable (s .args .lean .now) in
     let task = s .args .task in
-    none-left lean task (c .before .before .if1 .left) (c .if2 .taken)
+    none-left lean priceOf task (c .before .before .if1 .left) (c .if2 .taken)
 
 can-cast-if3 : (t : ℕ) → can-lts.Need-cast-if3 (can-claims t) (can-at t) can.Post can-Inv-loop can-μ-loop
 can-cast-if3 t c = search needs
@@ -61,7 +62,7 @@ can-returns-3 t c =
     let s = c .before .before .before .before .before .before .before .before in
     let lean = inTable (s .args .lean .now) in
     let task = s .args .task in
-    not-possible lean task (c .before .before .before .before .before .before .if1 .left) (inTable (s .args .possible .now)) (omega arith) (omega arith) (s .pre .1) (c .if3 .taken)
+    not-possible lean priceOf task (c .before .before .before .before .before .before .if1 .left) (inTable (s .args .possible .now)) (omega arith) (omega arith) (s .pre .1) (c .if3 .taken)
 
 can-wanted-requires : (t : ℕ) → can-lts.Need-wanted-requires (can-claims t) (can-at t) can.Post can-Inv-loop can-μ-loop
 can-wanted-requires t c κs = omega (arith, (c .before .before .before .before .before .before .if1 .left))
@@ -71,7 +72,7 @@ can-loop-holds t c =
     let s = c .before .before .before .before .before .before .before .before .before in
     let lean = inTable (s .args .lean .now) in
     let task = s .args .task in
-    tried-none lean task (c .wanted .result) (omega arith)
+    tried-none lean priceOf task (c .wanted .result) (omega arith)
 
 can-suits-requires : (t : ℕ) → can-lts.Need-suits-requires (can-claims t) (can-at t) can.Post can-Inv-loop can-μ-loop
 can-suits-requires t c κs = search needs
@@ -87,21 +88,21 @@ can-after-requires t c κs =
     let s = c .before .before .before .before .before .before .before .before .before .before .before .before .before .before in
     let lean = inTable (s .args .lean .now) in
     let task = s .args .task in
-    (omega (arith, (c .before .before .before .before .before .before .before .before .before .before .if2 .left)), suitable-payable lean task (c .before .before .before .before .before .wanted .result) (c .before .before .before .before .loop .bits) (sym (c .before .before .suits .ensures) ∙ c .before .if4 .taken))
+    (omega (arith, (c .before .before .before .before .before .before .before .before .before .before .if2 .left)), suitable-payable lean priceOf task (c .before .before .before .before .before .wanted .result) (c .before .before .before .before .loop .bits) (sym (c .before .before .suits .ensures) ∙ c .before .if4 .taken))
 
 can-can-requires : (t : ℕ) → can-lts.Need-can-requires (can-claims t) (can-at t) can.Post can-Inv-loop can-μ-loop
 can-can-requires t c κs =
     let s = c .before .before .before .before .before .before .before .before .before .before .before .before .before .before .before in
     let lean = inTable (s .args .lean .now) in
     let task = s .args .task in
-    less-to-do lean (inTable (s .args .possible .now)) task (c .after .result) (c .before .before .before .before .before .loop .bits) (lean (c .before .before .before .before .before .loop .bits)) t (c .after .ensures) (c .before .before .before .before .before .before .before .before .before .before .before .if2 .left) (s .pre .0) (s .pre .1)
+    less-to-do lean (inTable (s .args .possible .now)) priceOf task (c .after .result) (c .before .before .before .before .before .loop .bits) (lean (c .before .before .before .before .before .loop .bits)) t (c .after .ensures) (c .before .before .before .before .before .before .before .before .before .before .before .if2 .left) (s .pre .0) (s .pre .1)
 
 can-returns-4 : (t : ℕ) → can-lts.Need-returns-4 (can-claims t) (can-at t) can.Post can-Inv-loop can-μ-loop
 can-returns-4 t c =
     let s = c .before .before .before .before .before .before .before .before .before .before .before .before .before .before .before .before .before in
     let lean = inTable (s .args .lean .now) in
     let task = s .args .task in
-    found-one lean task (c .before .before .before .before .before .before .before .before .wanted .result) (c .before .before .before .before .before .before .before .before .before .before .before .before .before .if2 .left) (c .before .before .before .before .before .before .before .loop .bits) (c .before .before .before .before .before .before .before .loop .inv .inside) (sym (c .before .before .before .before .before .suits .ensures) ∙ c .before .before .before .before .if4 .taken) (c .before .before .after .result) (c .before .before .after .ensures)
+    found-one lean priceOf task (c .before .before .before .before .before .before .before .before .wanted .result) (c .before .before .before .before .before .before .before .before .before .before .before .before .before .if2 .left) (c .before .before .before .before .before .before .before .loop .bits) (c .before .before .before .before .before .before .before .loop .inv .inside) (sym (c .before .before .before .before .before .suits .ensures) ∙ c .before .before .before .before .if4 .taken) (c .before .before .after .result) (c .before .before .after .ensures)
     (c .before .can .result) (c .before .can .ensures) (c .if5 .taken)
 
 can-sub-bits : (t : ℕ) → can-lts.Need-sub-bits (can-claims t) (can-at t) can.Post can-Inv-loop can-μ-loop
@@ -115,11 +116,11 @@ can-loop-again t c =
     let s = c .before .before .before .before .before .before .before .before .before .before .before .before .before in
     let lean = inTable (s .args .lean .now) in
     let task = s .args .task in
-    tried-next lean task (c .before .before .before .before .wanted .result) (c .before .before .before .loop .bits) (c .before .before .before .loop .inv)
+    tried-next lean priceOf task (c .before .before .before .before .wanted .result) (c .before .before .before .loop .bits) (c .before .before .before .loop .inv)
     (⊎-elim
     (λ way.
-    not-served lean task (c .before .before .before .before .wanted .result) (c .before .before .before .loop .bits) (way .2 .result) (way .2 .ensures) (way .3 .result) (way .3 .ensures) (way .4 .left))
-    (λ way. not-suitable lean task (c .before .before .before .before .wanted .result) (c .before .before .before .loop .bits) (sym (c .before .suits .ensures) ∙ way .left))
+    not-served lean priceOf task (c .before .before .before .before .wanted .result) (c .before .before .before .loop .bits) (way .2 .result) (way .2 .ensures) (way .3 .result) (way .3 .ensures) (way .4 .left))
+    (λ way. not-suitable lean priceOf task (c .before .before .before .before .wanted .result) (c .before .before .before .loop .bits) (sym (c .before .suits .ensures) ∙ way .left))
     (c .if4 .came))
 
 can-returns-5 : (t : ℕ) → can-lts.Need-returns-5 (can-claims t) (can-at t) can.Post can-Inv-loop can-μ-loop
@@ -127,8 +128,8 @@ can-returns-5 t c =
     let s = c .before .before .before .before .before .before .before .before .before .before .before in
     let lean = inTable (s .args .lean .now) in
     let task = s .args .task in
-    found-none lean task (c .before .before .wanted .result) (c .before .before .before .before .before .before .before .before .before .if1 .left) (c .before .before .before .before .before .before .before .if2 .left) (s .pre .1 .nothing) (omega arith) (c .before .before .wanted .ensures)
-    (subst (λ (bits : ℕ). Tried lean task (c .before .before .wanted .result) bits) (c .loop-test .left) (c .before .loop .inv))
+    found-none lean priceOf task (c .before .before .wanted .result) (c .before .before .before .before .before .before .before .before .before .if1 .left) (c .before .before .before .before .before .before .before .if2 .left) (s .pre .1 .nothing) (omega arith) (c .before .before .wanted .ensures)
+    (subst (λ (bits : ℕ). Tried lean priceOf task (c .before .before .wanted .result) bits) (c .loop-test .left) (c .before .loop .inv))
 
 pub +can-spec : {M : Type 1} → statement M
 +can-spec = close μ-can λ t. can-lts.spec (can-claims t) (can-at t)

@@ -1,4 +1,5 @@
 -- `searching::serve::after` meets its contract. Assumes nothing.
+use Rattle.searching.specs.Prices.{priceOf}
 use Rattle.searching.proofs.Tasks.{task-left}
 use lib.Bits.{and-le-l}
 use native.Mathlib.Omega.{arith}
@@ -24,7 +25,7 @@ sub-t9 c = search needs
 returns : tie.Need-returns
 returns c =
     let a = c .before .before .before .before .before .before .args in
-    task-left (a .task) (a .set .bits) (a .gained) (c .before .before .before .before .without .result) (c .before .price .result) (omega arith) (c .before .before .before .before .without .ensures) (c .before .price .ensures)
+    task-left priceOf (a .task) (a .set .bits) (a .gained) (c .before .before .before .before .without .result) (c .before .price .result) (omega arith) (c .before .before .before .before .without .ensures) (c .before .price .ensures)
 
 pub after-spec : {M : Type 1} → statement M
 after-spec = tie.close (tie.spec sub-t4 without-requires sub-t7 price-requires sub-t9 returns)

@@ -6,6 +6,7 @@ use borrow.Author.Tests.{not-true, not-false}
 use Rattle.rules.specs.Sets.{without}
 use Rattle.rules.proofs.Differences.{contains-without}
 use Rattle.parts.specs.Parts.{Inside, inTable, Bounded}
+use Rattle.searching.specs.Prices.{priceOf}
 use Rattle.searching.specs.declared.serve.Task.{Task}
 use Rattle.searching.proofs.Trying.{bounded-part}
 use Rattle.searching.proofs.Nexts.{meets-nothing, not-free, too-dear, goes-on}
@@ -25,7 +26,7 @@ returns c =
     let gain = inTable (s .args .lean .now) in
     let task = s .args .task in
     let set : ℕ = s .args .set .bits in
-    meets-nothing gain task set (omega arith) (c .if1 .taken)
+    meets-nothing gain priceOf task set (omega arith) (c .if1 .taken)
 
 contains-requires : tie.Need-contains-requires
 contains-requires c κs = search needs
@@ -36,7 +37,7 @@ returns-2 c =
     let gain = inTable (s .args .lean .now) in
     let task = s .args .task in
     let set : ℕ = s .args .set .bits in
-    not-free gain task set (sym (c .before .contains .ensures) ∙ not-true _ (c .if2 .taken))
+    not-free gain priceOf task set (sym (c .before .contains .ensures) ∙ not-true _ (c .if2 .taken))
 
 price-requires : tie.Need-price-requires
 price-requires c κs = search needs
@@ -47,7 +48,7 @@ returns-3 c =
     let gain = inTable (s .args .lean .now) in
     let task = s .args .task in
     let set : ℕ = s .args .set .bits in
-    too-dear gain task set (omega (arith, c .before .before .price .ensures, c .if3 .taken))
+    too-dear gain priceOf task set (omega (arith, c .before .before .price .ensures, c .if3 .taken))
 
 after-requires : tie.Need-after-requires
 after-requires c κs = (c .before .before .before .before .before .before .before .before .before .pre .0, omega (arith, c .before .before .price .ensures, c .if3 .left))
@@ -68,7 +69,7 @@ returns-4 c =
     let set : ℕ = s .args .set .bits in
     let inside : Inside (task .free .bits) set =
     record { small = omega arith; within = sym (c .before .before .before .before .before .before .contains .ensures) ∙ not-false _ (c .before .before .before .before .before .if2 .left) } in
-    goes-on gain task set (omega arith) (c .before .before .before .before .before .before .before .if1 .left) inside (omega (arith, c .before .before .before .before .price .ensures, c .before .before .if3 .left))
+    goes-on gain priceOf task set (omega arith) (c .before .before .before .before .before .before .before .if1 .left) inside (omega (arith, c .before .before .before .before .price .ensures, c .before .before .if3 .left))
     (c .before .after .result) (c .before .after .ensures) (c .can .result) (c .can .ensures)
 
 pub is-next-spec : {M : Type 1} → statement M

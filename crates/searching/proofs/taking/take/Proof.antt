@@ -5,6 +5,7 @@ use native.Mathlib.Omega.{arith}
 use lib.ListN.{length, set}
 use Rattle.rules.proofs.Written.{length-written}
 use Rattle.parts.specs.Parts.{inTable}
+use Rattle.searching.specs.Prices.{priceOf}
 use Rattle.searching.specs.declared.serve.Task.{Task}
 use Rattle.searching.proofs.BestLists.{Begun, begun-none, begun-some, begun-more, begun-all}
 use borrow.Author.Needs.{needs}
@@ -13,7 +14,7 @@ use Rattle.searching.proofs.taking.take.Tie as tie
 
 abbrev Inv-loop : tie.InvT-loop
 Inv-loop lean possible counts all extracts₀ task₀ from₀ extracts task from =
-    Begun (inTable lean) (inTable possible) all task from extracts₀ extracts
+    Begun (inTable lean) priceOf (inTable possible) all task from extracts₀ extracts
 
 abbrev μ-loop : tie.MeasureT-loop
 μ-loop lean possible counts all extracts₀ task₀ from₀ extracts task from = task .extracts
@@ -23,7 +24,7 @@ loop-holds c =
     let a = c .before .args in
     let lean = inTable (a .lean .now) in
     let possible = inTable (a .possible .now) in
-    begun-none lean possible (a .all) (a .extracts .now) (c .before .pre .0) (c .before .pre .1) (c .before .pre .2)
+    begun-none lean priceOf possible (a .all) (a .extracts .now) (c .before .pre .0) (c .before .pre .1) (c .before .pre .2)
 
 next-requires : tie.Need-next-requires Inv-loop μ-loop
 next-requires c κs =
@@ -31,7 +32,7 @@ next-requires c κs =
     let lean = inTable (a .lean .now) in
     let possible = inTable (a .possible .now) in
     let l = c .before .before .loop in
-    (begun-some lean possible (a .all) (a .extracts .now) (l .task) (l .from) (l .extracts) (l .inv) (c .if1 .taken) (omega arith), l .inv .bounded)
+    (begun-some lean priceOf possible (a .all) (a .extracts .now) (l .task) (l .from) (l .extracts) (l .inv) (c .if1 .taken) (omega arith), l .inv .bounded)
 
 cast-extracts : tie.Need-cast-extracts Inv-loop μ-loop
 cast-extracts c = omega (arith, c .next .ensures .next .inside .small)
@@ -73,8 +74,8 @@ loop-again c =
     let possible = inTable (a .possible .now) in
     let l = c .before .before .before .before .before .before .before .before .loop in
     let number = c .before .before .before .before .before .next .result in
-    subst (λ (rest : Task). Begun lean possible (a .all) rest (number + 1) (a .extracts .now) (set (l .extracts) (a .all .extracts - l .task .extracts) number)) (sym (c .after .ensures))
-    (begun-more lean possible (a .all) (a .extracts .now) (l .task) (l .from) (l .extracts) (l .inv) (c .before .before .before .before .before .before .if1 .taken) (omega arith) number (c .before .before .before .before .before .next .ensures))
+    subst (λ (rest : Task). Begun lean priceOf possible (a .all) rest (number + 1) (a .extracts .now) (set (l .extracts) (a .all .extracts - l .task .extracts) number)) (sym (c .after .ensures))
+    (begun-more lean priceOf possible (a .all) (a .extracts .now) (l .task) (l .from) (l .extracts) (l .inv) (c .before .before .before .before .before .before .if1 .taken) (omega arith) number (c .before .before .before .before .before .next .ensures))
 
 same-length : tie.Need-same-length Inv-loop μ-loop
 same-length c = ap length (c .before .before .loop .inv .laid) ∙ length-written (c .before .before .loop .inv .begun) (c .before .before .before .before .args .extracts .now)
@@ -85,7 +86,7 @@ returns c =
     let lean = inTable (a .lean .now) in
     let possible = inTable (a .possible .now) in
     let l = c .before .before .loop in
-    begun-all lean possible (a .all) (a .extracts .now) (l .task) (l .from) (l .extracts) (l .inv) (omega (arith, c .if1 .left))
+    begun-all lean priceOf possible (a .all) (a .extracts .now) (l .task) (l .from) (l .extracts) (l .inv) (omega (arith, c .if1 .left))
 
 pub take-spec : {M : Type 1} → statement M
 take-spec =
