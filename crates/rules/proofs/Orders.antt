@@ -3,6 +3,7 @@ use mathlib.Core.Path.{_≡_, refl, sym, ap₂, _∙_}
 use mathlib.Core.Bool.{Bool, true, false, cond, false≢true}
 use mathlib.Core.List.{List, [], _∷_}
 use Prim.Native.Nat.{ℕ, _≤_, _<_}
+use native.Mathlib.Decide.{decLt}
 use native.Mathlib.Omega.{arith}
 use lib.Dec.{eqb, ltb}
 use borrow.Author.Tests.{eqb-true, eqb-false, eq-eqb, ne-eqb, ltb-true, ltb-false, lt-ltb}
@@ -28,6 +29,14 @@ ahead-smaller x y xs ys h = rw (ne-eqb x y (λ e. omega arith)) (lt-ltb x y h)
 pub ahead-same : (x y : ℕ) (xs ys : List ℕ) → x ≡ y → notAfter xs ys ≡ true → notAfter (x ∷ xs) (y ∷ ys) ≡ true
 unfolding notAfter
 ahead-same x y xs ys e h = rw (eq-eqb x y e) h
+
+-- a number before a list that is no greater keeps it from coming later
+pub ahead-no-greater : (x y : ℕ) (xs ys : List ℕ) → x ≤ y → notAfter xs ys ≡ true → notAfter (x ∷ xs) (y ∷ ys) ≡ true
+ahead-no-greater x y xs ys l e = go (decLt x y)
+  where
+    go : Dec (x < y) → notAfter (x ∷ xs) (y ∷ ys) ≡ true
+    go (yes h) = ahead-smaller x y xs ys h
+    go (no h) = ahead-same x y xs ys (omega arith) e
 
 pub notAfter-refl : (xs : List ℕ) → notAfter xs xs ≡ true
 unfolding notAfter

@@ -6,13 +6,12 @@ use Prim.Native.Nat.{ℕ, zero, suc, _/_, _%_, _^_, _≤_, _<_, zero-le}
 use native.Mathlib.Nat.{pow-suc, lt-of-le-of-lt}
 use native.Mathlib.Decide.{ℕ-discrete}
 use native.Mathlib.Omega.{arith}
-use lib.Bits.{bitAnd, bitOr}
+use lib.Bits.{bitOr}
 use borrow.Author.Tests.{ne-eqb, not-true}
 use Rattle.rules.specs.Lists.{anyOf, upFrom}
-use Rattle.rules.specs.Sets.{has, contains, size, without}
+use Rattle.rules.specs.Sets.{has, contains, without}
 use Rattle.rules.proofs.Lists.{and-parts, and-both, or-left, or-right, same-test, holds-fails, any-one, not-any-in, in-upFrom, upFrom-in}
-use Rattle.rules.proofs.SetBits.{has-and, has-or, has-later, has-beyond, sets-equal}
-use Rattle.rules.proofs.SetSizes.{size-some, size-parts}
+use Rattle.rules.proofs.SetBits.{has-or, has-later, has-beyond, sets-equal}
 use Rattle.rules.proofs.Sets.{contains-column, contains-has, contains-le, has-contains, has-without, without-le}
 
 -- ---- two sets joined bit by bit hold what either holds
@@ -61,12 +60,6 @@ contains-rest s t i c e =
     other : (j : ℕ) → has j t ≡ true → (b : Bool) → has j (2 ^ i) ≡ b → not b ≡ true
     other j h true o = holds-fails (has j t) h (ap (λ (k : ℕ). has k t) (has-only i j o) ∙ e)
     other j h false o = refl
-
--- a set has fewer columns without one of them
-pub size-less : (s i : ℕ) → i < 16 → has i s ≡ true → size (without s (2 ^ i)) < size s
-size-less s i l h =
-    let own : has i (bitAnd s (2 ^ i)) ≡ true = has-and s (2 ^ i) i ∙ and-both (has i s) (has i (2 ^ i)) h (has-own i) in
-    omega (arith, size-parts s (2 ^ i), size-some (bitAnd s (2 ^ i)) i l own)
 
 -- ---- the parts of a set
 

@@ -11,11 +11,11 @@ use lib.ListN.{length}
 use lib.Bits.{bitAnd, and-le-r}
 use lib.Count.{ones, ones-step, ones-le}
 use Rattle.rules.specs.Lists.{keep, upFrom}
-use Rattle.rules.specs.Sets.{has, members, contains, apart, size, union, without}
+use Rattle.rules.specs.Sets.{has, members, apart, size, union, without}
 use Rattle.rules.proofs.Lists.{in-upFrom}
 use Rattle.rules.proofs.Counting.{keep-same, keep-parts}
 use Rattle.rules.proofs.SetBits.{has-and, has-later, below-most, sets-equal}
-use Rattle.rules.proofs.Sets.{has-member, contains-and, apart-column, has-union, has-without, without-below}
+use Rattle.rules.proofs.Sets.{has-member, apart-column, has-union, has-without, without-below}
 
 -- ---- how many of a list are kept
 
@@ -75,9 +75,6 @@ size-parts s t =
     ∙ ap₂ (λ (l m : List ℕ). length l + length m)
     (keep-same _ _ (upFrom 0 16) (λ i m. sym (has-and s t i)))
     (keep-same _ _ (upFrom 0 16) (λ i m. sym (has-without s t i (in-upFrom 0 16 m .1))))
-
-pub size-mono : (s t : ℕ) → t < 2 ^ 16 → contains s t ≡ true → size t ≤ size s
-size-mono s t b c = omega (arith, size-parts s t, ap size (contains-and s t b c))
 
 pub size-union-apart : (s t : ℕ) → s < 2 ^ 16 → t < 2 ^ 16 → apart s t ≡ true → size (union s t) ≡ size s + size t
 size-union-apart s t bs bt a =

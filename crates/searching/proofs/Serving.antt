@@ -3,13 +3,12 @@ use mathlib.Core.Path.{_≡_, refl, sym, ap, subst, _∙_}
 use mathlib.Core.Bool.{Bool, true, false}
 use mathlib.Core.List.{List, [], _∷_}
 use Prim.Native.Nat.{ℕ, suc, _+_, _^_, _≤_, _<_}
-use native.Mathlib.Decide.{decLt}
 use native.Mathlib.Omega.{arith}
 use lib.ListN.{length}
 use Rattle.rules.specs.Sets.{has, contains, without}
 use Rattle.rules.specs.Plans.{notAfter}
 use Rattle.rules.proofs.Lists.{holds-fails}
-use Rattle.rules.proofs.Orders.{ahead-smaller, ahead-same}
+use Rattle.rules.proofs.Orders.{ahead-no-greater}
 use Rattle.rules.proofs.SetBits.{has-empty}
 use Rattle.rules.proofs.Sets.{contains-trans, contains-le, apart-sym, without-below}
 use Rattle.rules.proofs.Differences.{contains-without, left-swap, more-left, less-taken, left-apart, apart-left, within-empty, has-left}
@@ -91,14 +90,6 @@ module _ (gain : ℕ → ℕ) where
           }
 
 -- ---- the sets with no column too many serve as well
-
--- with a number put before it that is no greater, a list that comes no later still comes no later
-ahead-no-greater : (t s : ℕ) (list split : List ℕ) → t ≤ s → notAfter list split ≡ true → notAfter (t ∷ list) (s ∷ split) ≡ true
-ahead-no-greater t s list split l e = go (decLt t s)
-  where
-    go : Dec (t < s) → notAfter (t ∷ list) (s ∷ split) ≡ true
-    go (yes h) = ahead-smaller t s list split h
-    go (no h) = ahead-same t s list split (omega arith) e
 
 pub leaned-part : (gain lean : ℕ → ℕ) (free part : ℕ) → contains free part ≡ true → Leaned gain lean free → Leaned gain lean part
 leaned-part gain lean free part c l =
