@@ -4,9 +4,9 @@ use mathlib.Core.Bool.{Bool, true, false, not, cond, true≢false}
 use mathlib.Core.List.{List, [], _∷_}
 use mathlib.Core.Option.{Option, none, some, Option·map, Option·getD, orElse, Option·some-injective, Option·none-ne-some}
 use Prim.Native.Nat.{ℕ}
-use borrow.Author.Tests.{not-true, not-false}
+use borrow.Author.Tests.{not-false}
 use Rattle.rules.specs.Lists.{every, firstWhere}
-use Rattle.rules.specs.Jobs.{Job, breaks, safe, allowed, unlinked}
+use Rattle.rules.specs.Jobs.{Job, breaks, allowed, unlinked}
 use Rattle.rules.specs.Numbers.{Numbers, unfit, jobOf}
 use Rattle.rules.specs.Splits.{proper, allUnlinked, met, correct}
 use Rattle.rules.specs.Verdicts.{Verdict, unfitJob, improper, forbids, shares, unmet, right, refusalOf}
@@ -15,7 +15,7 @@ use Rattle.rules.specs.Verdicts.{Places, firstImproper, firstForbidden, 
 use Rattle.rules.proofs.Lists.{and-parts, and-both, every-in, every-all, not-any-in, not-any-all, first-none, none-first}
 use Rattle.rules.proofs.Searches.{else-none}
 use Rattle.rules.proofs.Numbers.{unfit-none, fit-job}
-use Rattle.rules.proofs.Jobs.{allowed-safe}
+use Rattle.rules.proofs.Jobs.{safe-means, means-safe, allowed-safe}
 use Rattle.rules.proofs.Splits.{correct-parts, parts-correct}
 
 -- ---- of several findings
@@ -76,21 +76,28 @@ module _ (P : Option Verdict → Type 0) where
 -- ---- each of the faults
 
 module _ (job : Job) where
+  unbroken-allowed : (s : ℕ) → firstWhere (breaks job s) (job .forbidden) ≡ none → allowed job s ≡ true
+  unbroken-allowed s e =
+      allowed-safe job s ∙ means-safe job s (λ f m. not-any-in (breaks job s) (first-none (breaks job s) (job .forbidden) e) m)
+
+  allowed-unbroken : (s : ℕ) → allowed job s ≡ true → firstWhere (breaks job s) (job .forbidden) ≡ none
+  allowed-unbroken s e =
+      none-first (breaks job s) (job .forbidden)
+      (not-any-all (breaks job s) (job .forbidden) (λ f m. safe-means job s f (sym (allowed-safe job s) ∙ e) m))
+
   forbidden-allowed : (split : List ℕ) → firstForbidden job split ≡ none → every (allowed job) split ≡ true
-  unfolding firstForbidden every safe
+  unfolding firstForbidden every
   forbidden-allowed [] e = refl
   forbidden-allowed (s ∷ split) e =
       let o = else-none _ _ e in
-      let here : safe job s ≡ true = ap not (first-none (breaks job s) (job .forbidden) (map-none _ _ (o .0))) in
-      and-both (allowed job s) (every (allowed job) split) (allowed-safe job s ∙ here) (forbidden-allowed split (map-none _ _ (o .1)))
+      and-both (allowed job s) (every (allowed job) split) (unbroken-allowed s (map-none _ _ (o .0))) (forbidden-allowed split (map-none _ _ (o .1)))
 
   allowed-forbidden : (split : List ℕ) → every (allowed job) split ≡ true → firstForbidden job split ≡ none
-  unfolding firstForbidden every safe
+  unfolding firstForbidden every
   allowed-forbidden [] e = refl
   allowed-forbidden (s ∷ split) e =
       let p = and-parts (allowed job s) (every (allowed job) split) e in
-      let here : safe job s ≡ true = sym (allowed-safe job s) ∙ p .0 in
-      none-else _ _ (none-map _ _ (none-first (breaks job s) (job .forbidden) (not-true _ here))) (none-map _ _ (allowed-forbidden split (p .1)))
+      none-else _ _ (none-map _ _ (allowed-unbroken s (p .0))) (none-map _ _ (allowed-forbidden split (p .1)))
 
   sharing-unlinked : (split : List ℕ) → firstSharing job split ≡ none → allUnlinked job split ≡ true
   unfolding firstSharing allUnlinked
