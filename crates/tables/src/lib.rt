@@ -1,4 +1,4 @@
-// For every set of columns, whether it is safe and which needs it meets: what the diagram and the planner read.
+// For every set of columns, whether it is safe and which needs it gains: what the diagram and the planner read.
 use columns::ALL_SETS;
 use job::Job;
 use job::MOST_FORBIDDEN;
@@ -58,7 +58,7 @@ pub fn mirrored_conditions(job: Job, chosen: usize, table: &mut [u64; ALL_BLOCKS
     conditions(turned, chosen, table);
 }
 
-// Which needs every set of the job's columns meets, where it is safe: need k is bit k. The table has been 0.
+// Which needs every set of the job's columns gains: need k is bit k. A need is gained wherever its condition holds. The table has been 0.
 pub fn gains(job: Job, table: &mut [u8; ALL_SETS])
     requires { ⌜ Sound job × (now table ≡ replicate allSets 0) ⌝ }
     ensures told { λ _. ⌜ ((j : Meant) → jobOf (numbersIn job) ≡ some j → Valued (64 * blocks (job .columns)) (gain j) (now (table .exit))) ⌝ }
