@@ -7,8 +7,8 @@ use lib.Dec.{eqb}
 use lib.ListN.{length}
 use borrow.Author.Tests.{ne-eqb}
 use Rattle.rules.specs.Signs.{byteAt}
+use Rattle.rules.proofs.Signs.{piece-all, piece-other}
 use Rattle.advice.specs.Sentences.{equals, inKey}
-use Rattle.advice.proofs.Pieces.{piece-all, piece-other}
 
 module _ (s : List ℕ) (p column : ℕ) (within : p ≤ length s) where
   -- no = stands before it in its line

@@ -1,59 +1,48 @@
 -- What the sentence for a refusal of a text says. Assumes nothing.
 use mathlib.Core.Path.{_≡_, refl, sym, ap, subst, _∙_}
 use mathlib.Core.Logic.{_⊎_, inl, inr}
-use mathlib.Core.List.{List, [], _∷_, List·Memᴰ, List·Memᴰ·head, List·Memᴰ·tail}
+use mathlib.Core.List.{List, [], _∷_, _++_, List·Memᴰ, List·Memᴰ·head, List·Memᴰ·tail}
 use mathlib.Core.Option.{Option, none, some, Option·map, orElse, Option·some-injective, Option·none-ne-some}
-use Prim.Native.Nat.{ℕ, zero, suc, _-_, _<_, _≤_}
+use Prim.Native.Nat.{ℕ, zero, suc, _<_}
 use native.Mathlib.Omega.{arith}
 use lib.ListN.{drop}
 use Rattle.rules.specs.Lists.{firstOf}
-use Rattle.rules.specs.Signs.{byteAt, forbidKey, needKey}
+use Rattle.rules.specs.Signs.{Says}
 use Rattle.rules.specs.Sets.{mostColumns}
 use Rattle.rules.specs.Numbers.{mostForbidden, mostNeeds, mostColumnMarks}
-use Rattle.rules.specs.Names.{Spot}
+use Rattle.rules.specs.Names.{Spot, nameAt}
 use Rattle.rules.specs.Phrases.{Formula, namesIn}
 use Rattle.rules.specs.Texts.{Line, Sheet, OfForm}
 use Rattle.rules.specs.Refusals.{tooMany, nameTwice, nameUnknown, endNumberOther}
 use Rattle.rules.specs.Positions.{positionOf}
 use Rattle.rules.specs.Sheets.{Refusal, refusal, nameAfter, lineAfter, needsOver, firstOver, linesIn}
-use Rattle.rules.specs.SheetFaults.{IsOver, Among, IsFault, column-twice, forbid-unknown, forbid-twice, need-unknown}
+use Rattle.rules.specs.SheetFaults.{Among, IsFault, column-twice, forbid-unknown, forbid-twice, need-unknown}
 use Rattle.rules.specs.SheetFaults.{HasFault, too-many, name-wrong, end-wrong}
 use Rattle.rules.specs.Readings.{refused, Reads}
-use Rattle.rules.proofs.Signs.{says-first}
-use Rattle.rules.proofs.Texts.{sheet-unique}
-use Rattle.rules.proofs.Places.{NamesRise, sheet-rises}
-use Rattle.rules.proofs.TooMany.{over-none, over-smallest}
-use Rattle.rules.proofs.Readings.{faulty-exactly}
-use Rattle.rules.proofs.Positions.{NamedIn, column-stands, forbid-stands, need-stands, end-line}
+use Rattle.rules.proofs.Lists.{after-in, in-before, in-middle}
+use Rattle.rules.proofs.Names.{same-bytes, same-name}
+use Rattle.rules.proofs.Places.{NamesRise, rise-before, line-rises, sheet-rises}
+use Rattle.rules.proofs.TooMany.{over-found}
+use Rattle.rules.proofs.Faults.{name-number}
+use Rattle.rules.proofs.Readings.{refused-fault}
+use Rattle.rules.proofs.Positions.{named-at, column-stands, forbid-stands, need-stands}
 use Rattle.writing.specs.Added.{Holds}
-use Rattle.advice.specs.Sentences.{nameAt}
-use Rattle.advice.proofs.Named.{name-run}
-use Rattle.advice.proofs.Spots.{after-in, in-before, in-middle, rise-before, line-rises, same-bytes, same-name}
+use Rattle.naming.specs.Sections.{keyOf}
+use Rattle.naming.specs.declared.sections.Section.the-variants.{Forbid, Need}
+use Rattle.advice.specs.Sentences.{countWords, remedy, located, sentence}
+use Rattle.advice.proofs.CountedLines.{form-counted}
 
 -- two outcomes that the promise allows are equal
 pub one-sentence : {text old new after : List ℕ} {r t : ℕ} → Holds text old r new → Holds text old t after → (r ≡ t) × (new ≡ after)
 one-sentence a b = (a .place ∙ sym (b .place), a .held ∙ sym (b .held))
 
--- ---- the fault of a text of the form
-
--- a refusal with another number than 1 and 2 comes from a fault of what the text says
-fault-of : {s : List ℕ} {number p : ℕ} → 2 < number → Reads s (refused number p) → (sheet : Sheet) → OfForm s sheet → HasFault sheet (refusal number p)
-fault-of {s} {number} {p} over h sheet form =
-    let f = faulty-exactly s number p over .0 h in
-    subst (λ (k : Sheet). HasFault k (refusal number p)) (sheet-unique (f .form) form) (f .fault)
+-- ---- refusals that are the same
 
 number-of : {f g : Refusal} → f ≡ g → f .number ≡ g .number
 number-of e = ap (λ (f : Refusal). f .number) e
 
 place-of : {f g : Refusal} → f ≡ g → f .place ≡ g .place
 place-of e = ap (λ (f : Refusal). f .place) e
-
--- a name's fault is 4 or 5
-name-number : {sheet : Sheet} {f : Refusal} → IsFault sheet f → (tooMany < f .number) × (f .number < endNumberOther)
-name-number (column-twice before after e a) = (omega arith, omega arith)
-name-number (forbid-unknown m i n) = (omega arith, omega arith)
-name-number (forbid-twice before after m e a b) = (omega arith, omega arith)
-name-number (need-unknown m i n) = (omega arith, omega arith)
 
 -- ---- 3: what is too many is told by where it is
 
@@ -85,9 +74,9 @@ need-at {p} (suc k) (l ∷ lines) e = go (firstOf (drop mostColumnMarks (namesIn
 pub data TooManyAt (s : List ℕ) (sheet : Sheet) (p : ℕ) : Type 0 where
   late-column : {x : Spot} → firstOf (drop mostColumns (sheet .columns)) ≡ some x → x .place ≡ p → positionOf s p .line ≡ 1 → TooManyAt s sheet p
   late-forbid : {l : Line (List Spot)} → firstOf (drop mostForbidden (sheet .forbids)) ≡ some l → l .place ≡ p → 1 < positionOf s p .line
-      → positionOf s p .column ≡ 1 → byteAt s p ≡ byteAt forbidKey 0 → TooManyAt s sheet p
+      → positionOf s p .column ≡ 1 → Says s p (keyOf Forbid) → TooManyAt s sheet p
   late-need : {l : Line Formula} → firstOf (drop mostNeeds (sheet .needs)) ≡ some l → l .place ≡ p → 1 < positionOf s p .line
-      → positionOf s p .column ≡ 1 → byteAt s p ≡ byteAt needKey 0 → TooManyAt s sheet p
+      → positionOf s p .column ≡ 1 → Says s p (keyOf Need) → TooManyAt s sheet p
   late-name : {l : Line Formula} {x : Spot} → List·Memᴰ l (sheet .needs) → firstOf (drop mostColumnMarks (namesIn (l .value))) ≡ some x → x .place ≡ p
       → 1 < positionOf s p .line → 1 < positionOf s p .column → TooManyAt s sheet p
 
@@ -99,7 +88,7 @@ late-at {s} {sheet} {p} form found = at-column (firstOf (drop mostColumns (sheet
     at-need (line-at f q) =
         let stands = need-stands form (after-in mostNeeds (sheet .needs) f) in
         late-need f q (rw (sym q) (omega (arith, stands .late, stands .begins .line))) (rw (sym q) (stands .begins .column))
-        (rw (sym q) (says-first (stands .said) .0))
+        (rw (sym q) (stands .said))
     at-need (name-at {l} m f q) =
         let stands = need-stands form m in
         let named = stands .names _ (after-in mostColumnMarks (namesIn (l .value)) f) in
@@ -111,7 +100,7 @@ late-at {s} {sheet} {p} form found = at-column (firstOf (drop mostColumns (sheet
         let q = Option·some-injective _ _ e in
         let stands = forbid-stands form (after-in mostForbidden (sheet .forbids) f) in
         late-forbid f q (rw (sym q) (omega (arith, stands .late, stands .begins .line))) (rw (sym q) (stands .begins .column))
-        (rw (sym q) (says-first (stands .said) .0))
+        (rw (sym q) (stands .said))
     at-forbid none f e = at-need (need-at mostNeeds (sheet .needs) e)
 
     at-column : (o : Option Spot) → firstOf (drop mostColumns (sheet .columns)) ≡ o
@@ -122,24 +111,13 @@ late-at {s} {sheet} {p} form found = at-column (firstOf (drop mostColumns (sheet
         late-column f q (rw (sym q) (column-stands form (after-in mostColumns (sheet .columns) f) .line))
     at-column none f e = at-forbid (firstOf (drop mostForbidden (sheet .forbids))) refl e
 
--- the smallest place of something too many is the one that is found
-smallest-found : {s : List ℕ} {sheet : Sheet} {p : ℕ} → OfForm s sheet → IsOver sheet p → ((q : ℕ) → IsOver sheet q → p ≤ q) → firstOver sheet ≡ some p
-smallest-found {sheet} {p} form a b = go (firstOver sheet) refl
-  where
-    go : (o : Option ℕ) → firstOver sheet ≡ o → firstOver sheet ≡ some p
-    go none e = absurd (over-none sheet p e a)
-    go (some q) e =
-        let least = over-smallest sheet q form e in
-        let same : q ≡ p = omega (arith, b q (least .0), least .1 p a) in
-        e ∙ ap (λ (k : ℕ). some k) same
-
--- so the line, the column and the byte at the place tell which of the four it is
+-- so the line, the column and the key at the place tell which of the four it is
 pub too-many-told : {s : List ℕ} {p : ℕ} → Reads s (refused tooMany p) → (sheet : Sheet) → OfForm s sheet → TooManyAt s sheet p
-too-many-told {s} {p} h sheet form = from (fault-of (omega arith) h sheet form) refl
+too-many-told {s} {p} h sheet form = from (refused-fault (omega arith) h sheet form) refl
   where
     from : {f : Refusal} → HasFault sheet f → f ≡ refusal tooMany p → TooManyAt s sheet p
-    from (too-many a b) e = late-at form (smallest-found form a b ∙ ap (λ (k : ℕ). some k) (place-of e))
-    from (name-wrong a b c) e = absurd (omega (arith, name-number b .0, number-of e))
+    from (too-many a b) e = late-at form (over-found form a b ∙ ap (λ (k : ℕ). some k) (place-of e))
+    from (name-wrong a b c) e = absurd (omega (arith, name-number sheet b .0, number-of e))
     from (end-wrong a b c) e = absurd (omega (arith, number-of e))
 
 -- ---- 4 and 5: the name in the sentence is the one at fault
@@ -150,15 +128,12 @@ pub data NameOf (sheet : Sheet) (x : Spot) : Type 0 where
   in-forbid : {l : Line (List Spot)} → List·Memᴰ l (sheet .forbids) → List·Memᴰ x (l .value) → NameOf sheet x
   in-need : {l : Line Formula} → List·Memᴰ l (sheet .needs) → List·Memᴰ x (namesIn (l .value)) → NameOf sheet x
 
-named-told : {s : List ℕ} {n : ℕ} {x : Spot} → NamedIn s n x → nameAt s (x .place) ≡ x .name
-named-told m = name-run (m .name .run) ∙ sym (m .bytes)
-
 module _ {s : List ℕ} {sheet : Sheet} (form : OfForm s sheet) where
   -- what the sentence would name at the place of a name is that name
   pub name-told : {x : Spot} → NameOf sheet x → nameAt s (x .place) ≡ x .name
-  name-told (among-columns m) = named-told (column-stands form m)
-  name-told (in-forbid m i) = named-told (forbid-stands form m .names _ i)
-  name-told (in-need m i) = named-told (need-stands form m .names _ i)
+  name-told (among-columns m) = named-at s (column-stands form m)
+  name-told (in-forbid m i) = named-at s (forbid-stands form m .names _ i)
+  name-told (in-need m i) = named-at s (need-stands form m .names _ i)
 
   fault-name : {f : Refusal} → IsFault sheet f → (x : Spot) × NameOf sheet x × (x .place ≡ f .place)
   fault-name (column-twice before after {x} e a) = (x, among-columns (in-middle before after e), refl)
@@ -169,7 +144,7 @@ module _ {s : List ℕ} {sheet : Sheet} (form : OfForm s sheet) where
 -- the bytes that the sentence names are a name of the text that stands at the place
 pub names-faulty : {s : List ℕ} {number p : ℕ} → (number ≡ nameTwice) ⊎ (number ≡ nameUnknown) → Reads s (refused number p) → (sheet : Sheet)
     → OfForm s sheet → (x : Spot) × NameOf sheet x × (x .place ≡ p) × (nameAt s p ≡ x .name)
-names-faulty {s} {number} {p} which h sheet form = from (fault-of (omega (arith, bounds which .0)) h sheet form) refl
+names-faulty {s} {number} {p} which h sheet form = from (refused-fault (omega (arith, bounds which .0)) h sheet form) refl
   where
     bounds : (number ≡ nameTwice) ⊎ (number ≡ nameUnknown) → (3 < number) × (number < endNumberOther)
     bounds (inl e) = (omega arith, omega arith)
@@ -195,7 +170,7 @@ pub record StoodBefore (s : List ℕ) (sheet : Sheet) (p : ℕ) : Type 0 where
 
 -- the name in the sentence has stood earlier in its line
 pub twice-told : {s : List ℕ} {p : ℕ} → Reads s (refused nameTwice p) → (sheet : Sheet) → OfForm s sheet → StoodBefore s sheet p
-twice-told {s} {p} h sheet form = from (fault-of (omega arith) h sheet form) refl
+twice-told {s} {p} h sheet form = from (refused-fault (omega arith) h sheet form) refl
   where
     twice : {f : Refusal} → IsFault sheet f → f .number ≡ nameTwice → StoodBefore s sheet (f .place)
     twice (column-twice before after {x} e a) n =
@@ -204,7 +179,7 @@ twice-told {s} {p} h sheet form = from (fault-of (omega arith) h sheet form) ref
         record {
           first = a .one;
           isName = among-columns m;
-          earlier = rise-before before x after (subst (NamesRise _ _) e (sheet-rises form .columnsRise)) (a .stands);
+          earlier = rise-before _ before x after (subst (NamesRise _ _) e (sheet-rises form .columnsRise)) (a .stands);
           line = column-stands form m .line ∙ sym (column-stands form i .line);
           same = same-bytes _ _ (a .same) ∙ sym (name-told form (among-columns i));
         }
@@ -212,11 +187,11 @@ twice-told {s} {p} h sheet form = from (fault-of (omega arith) h sheet form) ref
     twice (forbid-twice {l} before after {x} k e c a) n =
         let m = in-before before (x ∷ after) e (a .stands) in
         let i = in-middle before after e in
-        let rises = line-rises (sheet-rises form .forbidsRise) k .2 in
+        let rises = line-rises _ (sheet-rises form .forbidsRise) k .2 in
         record {
           first = a .one;
           isName = in-forbid k m;
-          earlier = rise-before before x after (subst (NamesRise _ _) e rises) (a .stands);
+          earlier = rise-before _ before x after (subst (NamesRise _ _) e rises) (a .stands);
           line = forbid-stands form k .names _ m .line ∙ sym (forbid-stands form k .names _ i .line);
           same = same-bytes _ _ (a .same) ∙ sym (name-told form (in-forbid k i));
         }
@@ -232,7 +207,7 @@ twice-told {s} {p} h sheet form = from (fault-of (omega arith) h sheet form) ref
 -- no column has the name in the sentence
 pub unknown-told : {s : List ℕ} {p : ℕ} → Reads s (refused nameUnknown p) → (sheet : Sheet) → OfForm s sheet → (x : Spot) → List·Memᴰ x (sheet .columns)
     → x .name ≡ nameAt s p → ⊥
-unknown-told {s} {p} h sheet form x m same = from (fault-of (omega arith) h sheet form) refl
+unknown-told {s} {p} h sheet form x m same = from (refused-fault (omega arith) h sheet form) refl
   where
     other : {y : Spot} → NameOf sheet y → y .place ≡ p → (Among (sheet .columns) y → ⊥) → ⊥
     other {y} k e n =
@@ -252,11 +227,8 @@ unknown-told {s} {p} h sheet form x m same = from (fault-of (omega arith) h shee
 
 -- ---- 6: the number of lines
 
--- the number in the sentence is that of the forbid and need lines
-pub six-counts : {s : List ℕ} {p : ℕ} → Reads s (refused endNumberOther p) → (sheet : Sheet) → OfForm s sheet → positionOf s p .line - 2 ≡ linesIn sheet
-six-counts {s} {p} h sheet form = from (fault-of (omega arith) h sheet form) refl
-  where
-    from : {f : Refusal} → HasFault sheet f → f ≡ refusal endNumberOther p → positionOf s p .line - 2 ≡ linesIn sheet
-    from (too-many a b) e = absurd (omega (arith, number-of e))
-    from (name-wrong a b c) e = absurd (omega (arith, name-number b .1, number-of e))
-    from (end-wrong a b c) e = rw (sym (place-of e)) (omega (arith, end-line s sheet form))
+-- for a text of the form the number in the sentence is that of the forbid and need lines
+pub six-counts : {s : List ℕ} {sheet : Sheet} (p : ℕ) → OfForm s sheet
+    → sentence s endNumberOther p ≡ located (positionOf s p) ++ countWords (linesIn sheet)
+unfolding sentence remedy
+six-counts p form = rw (form-counted form)

@@ -1,16 +1,15 @@
 -- What is wrong at a place, by the byte there and those before it. Assumes nothing.
-use mathlib.Core.Path.{_≡_}
+use mathlib.Core.Path.{_≡_, refl}
 use mathlib.Core.Bool.{true, false, not, cond, _||_}
 use mathlib.Core.List.{List}
 use Prim.Native.Nat.{ℕ, _+_, _-_, _≤_, _<_}
 use native.Mathlib.Decide.{ℕ-discrete}
 use native.Mathlib.Omega.{arith}
-use lib.Dec.{eqb}
 use lib.ListN.{length, take}
 use borrow.Author.Tests.{le-leb, lt-leb, ne-eqb}
-use Rattle.rules.specs.Signs.{byteAt, letter, digit, inName, lineEnd, comma, plus, ampersand, bar, bracketOpen, bracketClose}
+use Rattle.rules.specs.Signs.{byteAt, digit, inName, lineEnd, comma, plus, ampersand, bar, bracketOpen, bracketClose}
 use Rattle.rules.specs.Phrases.{mostBrackets}
-use Rattle.rules.proofs.Lists.{holds-fails, or-neither}
+use Rattle.rules.proofs.Signs.{named-other, no-name-no-digit}
 use Rattle.advice.specs.Sentences.{equals, carriageReturn, blank, tab, capital, joining, inKey, nameFull, openAfter, wrongSign, wrongAt}
 use Rattle.advice.specs.declared.wrong.Wrong.the-variants.{EndsEarly, CarriageReturn, Blank, EmptyLine, LineEndsEarly, Capital}
 use Rattle.advice.specs.declared.wrong.Wrong.the-variants.{Foreign, NoSuchLine, LongName, DeepBracket, DigitFirst, Misplaced}
@@ -32,14 +31,6 @@ joining-either b k e f l h = go (ℕ-discrete b k)
     go (yes same) = rw same e
     go (no other) = let next : b ≡ k + 1 = omega arith in rw next f
 
--- a byte in a name is no bracket
-named-no-bracket : (b : ℕ) → inName b ≡ true → eqb b bracketOpen ≡ false
-named-no-bracket b e = ne-eqb b bracketOpen λ f. holds-fails (inName b) e (rw f)
-
--- a byte in no name is no digit
-no-name-no-digit : (b : ℕ) → inName b ≡ false → digit b ≡ false
-no-name-no-digit b e = or-neither (letter b) (digit b) e .1
-
 -- ---- at a sign inside a line
 
 module _ (s : List ℕ) (p : ℕ) where
@@ -52,17 +43,17 @@ module _ (s : List ℕ) (p : ℕ) where
     -- a letter
     pub wrong-letter : nameFull s p ≡ false → digit (byteAt s p) ≡ false → Misplaced ≡ wrongSign s p
     unfolding wrongSign
-    wrong-letter e f = rw (named, e, named-no-bracket (byteAt s p) named, f)
+    wrong-letter e f = rw (named, e, named-other (byteAt s p) bracketOpen named refl, f)
 
     -- a digit behind a letter or a digit
     pub wrong-later : nameFull s p ≡ false → digit (byteAt s p) ≡ true → inName (byteAt s (p - 1)) ≡ true → Misplaced ≡ wrongSign s p
     unfolding wrongSign
-    wrong-later e f g = rw (named, e, named-no-bracket (byteAt s p) named, f, g)
+    wrong-later e f g = rw (named, e, named-other (byteAt s p) bracketOpen named refl, f, g)
 
     -- a digit behind a sign
     pub wrong-first : nameFull s p ≡ false → digit (byteAt s p) ≡ true → inName (byteAt s (p - 1)) ≡ false → DigitFirst ≡ wrongSign s p
     unfolding wrongSign
-    wrong-first e f g = rw (named, e, named-no-bracket (byteAt s p) named, f, g)
+    wrong-first e f g = rw (named, e, named-other (byteAt s p) bracketOpen named refl, f, g)
 
   -- a bracket too many
   pub wrong-deep : byteAt s p ≡ bracketOpen → mostBrackets ≤ openAfter 0 (take p s) → DeepBracket ≡ wrongSign s p

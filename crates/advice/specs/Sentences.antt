@@ -5,14 +5,17 @@ use mathlib.Core.List.{List, [], _∷_, _++_}
 use Prim.Native.Nat.{ℕ, _+_, _-_}
 use Prim.Native.String.{String}
 use lib.Dec.{eqb, ltb, leb}
-use lib.ListN.{length, take, drop}
+use lib.ListN.{length, take}
 use Rattle.rules.specs.Lists.{every}
-use Rattle.rules.specs.Signs.{bytes, byteAt, piece, digit, inName, lineEnd, comma, plus, ampersand, bar, bracketOpen, bracketClose, forbidKey}
+use Rattle.rules.specs.Signs.{bytes, byteAt, piece, saysAt, digit, inName, lineEnd, comma, plus, ampersand, bar, bracketOpen, bracketClose}
 use Rattle.rules.specs.Words.{decimal}
-use Rattle.rules.specs.Names.{mostNameBytes}
+use Rattle.rules.specs.Names.{mostNameBytes, nameAt}
 use Rattle.rules.specs.Phrases.{mostBrackets}
 use Rattle.rules.specs.Refusals.{textTooLong, textNotOfForm, tooMany, nameTwice, nameUnknown, endNumberOther, noCorrectSplit}
 use Rattle.rules.specs.Positions.{Position, positionOf}
+use Rattle.naming.specs.Sections.{keyOf}
+use Rattle.naming.specs.declared.sections.Section.the-variants.{Forbid}
+use Rattle.advice.specs.CountedLines.{countedLines}
 use Rattle.advice.specs.declared.wrong.Wrong.{Wrong}
 use Rattle.advice.specs.declared.wrong.Wrong.the-variants.{EndsEarly, CarriageReturn, Blank, EmptyLine, LineEndsEarly, Capital, Foreign, NoSuchLine, LongName, DeepBracket, DigitFirst, Misplaced}
 
@@ -89,23 +92,19 @@ unfoldable pub tooManyWords : List ℕ → ℕ → Position → String
 tooManyWords s p at =
     cond (eqb (at .line) 1) "this is the 17th column, and 16 are the most; leave out a column that no line names.\n"
     (cond (eqb (at .column) 1)
-    (cond (eqb (byteAt s p) (byteAt forbidKey 0)) "this is the 33rd forbid line, and 32 are the most; leave out one that has all columns of another.\n"
+    (cond (saysAt s p (keyOf Forbid)) "this is the 33rd forbid line, and 32 are the most; leave out one that has all columns of another.\n"
     "this is the 9th need line, and 8 are the most; leave out one that is met wherever another is.\n")
     "this is the 33rd name in the need, and 32 are the most; write the need shorter.\n")
 
--- ---- refusals 4 and 5
+-- ---- refusal 6, by how many lines its number has to count
 
--- the letters and digits that a list begins with
-unfoldable pub beginning : List ℕ → List ℕ
-beginning [] = []
-beginning (b ∷ s) = cond (inName b) (b ∷ beginning s) []
-
-abbrev pub nameAt : List ℕ → ℕ → List ℕ
-nameAt s p = beginning (drop p s)
+abbrev pub countWords : ℕ → List ℕ
+countWords lines =
+    bytes "the number of forbid and need lines is " ++ (decimal lines ++ bytes "; see that no line was lost or added, and then write this number here.\n")
 
 -- ---- the sentence
 
--- what is wrong and what to do; the end line is the one after the columns line and all forbid and need lines, so their number is two less than its own
+-- what is wrong and what to do
 unfoldable pub remedy : List ℕ → ℕ → ℕ → Position → List ℕ
 remedy s number p at =
     cond (eqb number textTooLong) (bytes "the text has more than 8192 bytes; use shorter names, or leave out lines that stand twice.\n")
@@ -113,7 +112,7 @@ remedy s number p at =
     (cond (eqb number tooMany) (bytes (tooManyWords s p at))
     (cond (eqb number nameTwice) (bytes "the name " ++ (nameAt s p ++ bytes " stands here for the second time in its line; take it out or write the one that was meant.\n"))
     (cond (eqb number nameUnknown) (bytes "the name " ++ (nameAt s p ++ bytes " is no column; correct it, or add it to the line columns= if the register has this column.\n"))
-    (bytes "the number of forbid and need lines is " ++ (decimal (at .line - 2) ++ bytes "; see that no line was lost or added, and then write this number here.\n"))))))
+    (countWords (countedLines s))))))
 
 -- "Line 2, column 8: "
 unfoldable pub located : Position → List ℕ

@@ -6,6 +6,7 @@ use writing::put;
 mod numbers; // numbers.rt: a difference that stops at 0
 mod position; // position.rt: the line and the column of a place
 mod wrong; // wrong.rt: what is wrong where a text stops being of the form
+mod counted; // counted.rt: how many lines the number at the end has to count
 mod words; // words.rt: the words for what is wrong, and for too many
 mod remedy; // remedy.rt: the words for every refusal of a text
 

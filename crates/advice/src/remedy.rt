@@ -1,5 +1,5 @@
 // The words for every refusal of a text: where it is, what is wrong there, and what to do.
-use crate::numbers::less;
+use crate::counted::counted_lines;
 use crate::position::Position;
 use crate::words::put_too_many;
 use crate::words::put_wrong;
@@ -13,12 +13,11 @@ use naming::words::name_end;
 use writing::put;
 use writing::put_number;
 ghost use mathlib.Core.List.{_++_};
-ghost use Prim.Native.Nat.{_-_};
 ghost use Rattle.rules.specs.Signs.{bytes};
-ghost use Rattle.rules.specs.Words.{decimal};
+ghost use Rattle.rules.specs.Names.{nameAt};
 ghost use Rattle.writing.specs.Added.{Adds};
 ghost use Rattle.advice.specs.Positions.{positionIn};
-ghost use Rattle.advice.specs.Sentences.{nameAt, remedy, located};
+ghost use Rattle.advice.specs.Sentences.{countWords, remedy, located};
 
 // Puts the line and the column.
 pub fn put_located(page: &mut [u8], at: usize, position: Position) -> usize
@@ -73,7 +72,7 @@ pub fn put_remedy(
             b" is no column; correct it, or add it to the line columns= if the register has this column.\n",
         );
     }
-    put_count(page, at, position.line)
+    put_count(page, at, counted_lines(text))
 }
 
 // Puts that the name at a place of the text is what these words say.
@@ -98,14 +97,12 @@ fn put_name(page: &mut [u8], at: usize, text: &[u8], place: usize) -> usize
     put(page, at, &text[place..end])
 }
 
-// Puts how many forbid and need lines stand before the end line, which is in this line: all lines before it but the first.
-fn put_count(page: &mut [u8], at: usize, line: usize) -> usize
-    ensures { λ r. ⌜ Adds
-        (bytes "the number of forbid and need lines is " ++ (decimal (line - 2) ++ bytes "; see that no line was lost or added, and then write this number here.\n"))
-        at (now (page .entry)) r (now (page .exit)) ⌝ }
+// Puts that there are so many forbid and need lines.
+fn put_count(page: &mut [u8], at: usize, lines: usize) -> usize
+    ensures { λ r. ⌜ Adds (countWords lines) at (now (page .entry)) r (now (page .exit)) ⌝ }
 {
     let from = put(page, at, b"the number of forbid and need lines is ");
-    let to = put_number(page, from, less(line, 2));
+    let to = put_number(page, from, lines);
     put(
         page,
         to,

@@ -1,7 +1,8 @@
 // The words for what is wrong, and for what is too many.
 use crate::position::Position;
 use crate::wrong::Wrong;
-use naming::signs::byte;
+use naming::sections::Section;
+use naming::sections::key_stands;
 use writing::put;
 ghost use Rattle.rules.specs.Signs.{bytes};
 ghost use Rattle.writing.specs.Added.{Adds};
@@ -96,7 +97,7 @@ pub fn put_too_many(
             b"this is the 33rd name in the need, and 32 are the most; write the need shorter.\n",
         );
     }
-    if byte(text, place) == b'f' {
+    if key_stands(text, Section::Forbid, place) {
         return put(
             page,
             at,

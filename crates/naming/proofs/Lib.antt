@@ -4,6 +4,7 @@ pub mod Runs
 pub mod Alike
 pub mod Walks
 pub mod KeyPlaces
+pub mod CountedKeys
 pub mod PhraseNames
 pub mod Sought
 pub mod Laid

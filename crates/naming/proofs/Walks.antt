@@ -182,6 +182,12 @@ between-line {s} {p} {q} (word {r} n b) i l h e = go (ltb i r) refl (λ m k g. b
     go true f later = holds-fails _ (n .run .goesOn i l (ltb-true i r f)) (end-no-name (byteAt s i) e)
     go false f later = later (ltb-false i r f) h e
 
+-- so a line goes to its end behind its names
+pub words-line : {s : List ℕ} {p q : ℕ} {xs : List Spot} → Words s p q xs → Ends s p q
+words-line {s} {p} {q} w =
+    let inside = no-sign-inside s q (words-ends w) in
+    record { forward = between-forward (w .between); inside = λ l. omega arith; goesOn = between-line (w .between); stops = λ l. w .ends }
+
 -- the names of a line go to where the line ends
 pub ends-words : {s : List ℕ} {p q r : ℕ} {xs : List Spot} → Words s p q xs → Ends s p r → r ≡ q
 ends-words {s} {p} {q} {r} w k =

@@ -1,8 +1,10 @@
--- The sections of a job text, each with the key that its lines begin with.
-use mathlib.Core.List.{List}
+-- The sections of a job text, each with the key that its lines begin with, and which of them the number at the end counts.
+use mathlib.Core.Bool.{Bool, true, false, _&&_}
+use mathlib.Core.List.{List, [], _∷_}
 use Prim.Native.Nat.{ℕ}
 use lib.ListN.{length}
-use Rattle.rules.specs.Signs.{columnsKey, forbidKey, needKey, endKey}
+use Rattle.rules.specs.Lists.{anyOf}
+use Rattle.rules.specs.Signs.{saysAt, columnsKey, forbidKey, needKey, endKey}
 use Rattle.naming.specs.declared.sections.Section.{Section}
 use Rattle.naming.specs.declared.sections.Section.the-variants.{Columns, Forbid, Need, End}
 
@@ -16,3 +18,18 @@ keyOf End = endKey
 -- how many they are
 abbrev pub widthOf : Section → ℕ
 widthOf section = length (keyOf section)
+
+-- all of them
+abbrev pub sections : List Section
+sections = Columns ∷ Forbid ∷ Need ∷ End ∷ []
+
+-- the number at the end counts its lines
+abbrev pub counted : Section → Bool
+counted Columns = false
+counted Forbid = true
+counted Need = true
+counted End = false
+
+-- the key of a section whose lines it counts stands at place p
+unfoldable pub countedAt : List ℕ → ℕ → Bool
+countedAt s p = anyOf (λ section. counted section && saysAt s p (keyOf section)) sections

@@ -4,14 +4,14 @@ use crate::signs::byte;
 use crate::signs::stands;
 use crate::words::line_end;
 ghost use mathlib.Core.Path.{_≡_};
-ghost use mathlib.Core.Bool.{true, false};
+ghost use mathlib.Core.Bool.{true, false, _&&_};
 ghost use mathlib.Core.List.{List};
 ghost use Prim.Native.Nat.{ℕ, _+_, _<_, _≤_};
 ghost use lib.ListN.{length};
-ghost use Rattle.rules.specs.Signs.{byteAt, Says};
+ghost use Rattle.rules.specs.Signs.{byteAt, Says, saysAt};
 ghost use Rattle.rules.specs.Names.{Spot};
 ghost use Rattle.naming.specs.Words.{Words};
-ghost use Rattle.naming.specs.Sections.{keyOf, widthOf};
+ghost use Rattle.naming.specs.Sections.{keyOf, widthOf, counted, countedAt};
 
 pub enum Section {
     Columns,
@@ -69,4 +69,39 @@ pub fn next_line(text: &[u8], section: Section, at: usize) -> usize
         return value;
     }
     line_end(text, value) + 1
+}
+
+// Whether the number at the end counts its lines.
+pub fn counts(section: Section) -> bool
+    ensures { λ r. ⌜ r ≡ counted section ⌝ }
+{
+    match section {
+        Section::Columns => false,
+        Section::Forbid => true,
+        Section::Need => true,
+        Section::End => false,
+    }
+}
+
+// Whether the key of a section whose lines it counts stands at a place.
+pub fn counted_at(text: &[u8], at: usize) -> bool
+    ensures { λ r. ⌜ r ≡ countedAt (now (text .entry)) at ⌝ }
+{
+    if counted_by(text, Section::Columns, at) {
+        return true;
+    }
+    if counted_by(text, Section::Forbid, at) {
+        return true;
+    }
+    if counted_by(text, Section::Need, at) {
+        return true;
+    }
+    counted_by(text, Section::End, at)
+}
+
+// Whether the number at the end counts the lines of this section, and its key stands at a place.
+fn counted_by(text: &[u8], section: Section, at: usize) -> bool
+    ensures { λ r. ⌜ r ≡ (counted section && saysAt (now (text .entry)) at (keyOf section)) ⌝ }
+{
+    counts(section) && key_stands(text, section, at)
 }

@@ -40,16 +40,17 @@ module _ (sheet : Sheet) where
   right-or-fault r (name-wrong a b c) = r .names _ b
   right-or-fault r (end-wrong a b c) = c (r .end)
 
-  name-number : {f : Refusal} → IsFault sheet f → (2 < f .number) × (f .number < 7)
+  -- a fault of a name has the number 4 or 5
+  pub name-number : {f : Refusal} → IsFault sheet f → (tooMany < f .number) × (f .number < endNumberOther)
   name-number (column-twice before after q a) = omega arith
   name-number (forbid-unknown m i a) = omega arith
   name-number (forbid-twice before after m q a b) = omega arith
   name-number (need-unknown m i a) = omega arith
 
-  -- such a fault has one of the numbers 3 to 6
+  -- any fault has one of the numbers 3 to 6
   pub fault-number : {f : Refusal} → HasFault sheet f → (2 < f .number) × (f .number < 7)
   fault-number (too-many a b) = omega arith
-  fault-number (name-wrong a b c) = name-number b
+  fault-number (name-wrong a b c) = let n = name-number b in omega arith
   fault-number (end-wrong a b c) = omega arith
 
   -- what the search finds

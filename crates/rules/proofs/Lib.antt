@@ -52,4 +52,5 @@ pub mod Plannings
 pub mod SmallTable
 pub mod Words
 pub mod Positions
+pub mod LineStarts
 pub mod Pages

@@ -1,14 +1,14 @@
 -- Laws of the plain words about lists. Assumes nothing.
-use mathlib.Core.Path.{_≡_, refl, sym, ap, _∙_}
+use mathlib.Core.Path.{_≡_, refl, sym, ap, subst, _∙_}
 use mathlib.Core.Logic.{_⊎_, inl, inr}
 use mathlib.Core.Bool.{Bool, true, false, not, cond, _&&_, _||_, true≢false, false≢true, and-eq-true-iff, or-false, or-assoc}
-use mathlib.Core.List.{List, [], _∷_, _++_, List·Memᴰ, List·Memᴰ·head, List·Memᴰ·tail}
-use mathlib.Core.Option.{Option, none, some, Option·map}
+use mathlib.Core.List.{List, [], _∷_, _++_, List·Memᴰ, List·Memᴰ·head, List·Memᴰ·tail, Memᴰ·append-left, Memᴰ·append-right}
+use mathlib.Core.Option.{Option, none, some, Option·map, Option·some-injective, Option·none-ne-some}
 use Prim.Native.Nat.{ℕ, zero, suc, _+_, _≤_, _<_}
 use native.Mathlib.Decide.{ℕ-discrete}
 use native.Mathlib.Omega.{arith}
-use lib.ListN.{length, getD}
-use Rattle.rules.specs.Lists.{every, anyOf, keep, firstWhere, upFrom}
+use lib.ListN.{length, getD, drop}
+use Rattle.rules.specs.Lists.{every, anyOf, keep, firstWhere, firstOf, upFrom}
 
 -- ---- tests joined by and, or, not
 
@@ -112,7 +112,36 @@ module _ {A : Type 0} where
   in-getD {x} {xs = y ∷ ys} d (List·Memᴰ·head e) = (0, omega arith, sym e)
   in-getD {x} {xs = y ∷ ys} d (List·Memᴰ·tail m) = let r = in-getD d m in (suc (r .0), omega arith, r .2)
 
+  -- what stands behind the first k is one of all
+  pub drop-in : {x : A} (k : ℕ) (xs : List A) → List·Memᴰ x (drop k xs) → List·Memᴰ x xs
+  drop-in zero xs m = m
+  drop-in (suc k) [] m = m
+  drop-in (suc k) (y ∷ xs) m = List·Memᴰ·tail (drop-in k xs m)
+
+  -- so is the first one behind them
+  pub after-in : {x : A} (k : ℕ) (xs : List A) → firstOf (drop k xs) ≡ some x → List·Memᴰ x xs
+  unfolding firstOf
+  after-in {x} k xs e = drop-in k xs (go (drop k xs) e)
+    where
+      go : (ys : List A) → firstOf ys ≡ some x → List·Memᴰ x ys
+      go [] f = absurd (Option·none-ne-some x f)
+      go (y ∷ ys) f = List·Memᴰ·head (sym (Option·some-injective _ _ f))
+
+  -- one before others is one of all
+  pub in-before : {x : A} {xs : List A} (before after : List A) → xs ≡ before ++ after → List·Memᴰ x before → List·Memᴰ x xs
+  in-before {x} before after e m = subst (List·Memᴰ x) (sym e) (Memᴰ·append-left after m)
+
+  -- so is one between others
+  pub in-middle : {x : A} {xs : List A} (before after : List A) → xs ≡ before ++ (x ∷ after) → List·Memᴰ x xs
+  in-middle {x} before after e = subst (List·Memᴰ x) (sym e) (Memᴰ·append-right before (List·Memᴰ·head refl))
+
   -- ---- keep
+
+  -- none are kept where the test fails of all
+  pub keep-none : (p : A → Bool) (xs : List A) → ((x : A) → List·Memᴰ x xs → p x ≡ false) → keep p xs ≡ []
+  unfolding keep
+  keep-none p [] f = refl
+  keep-none p (x ∷ xs) f = rw (f x (List·Memᴰ·head refl)) (keep-none p xs (λ y m. f y (List·Memᴰ·tail m)))
 
   pub keep-in : (p : A → Bool) {x : A} {xs : List A} → List·Memᴰ x xs → p x ≡ true → List·Memᴰ x (keep p xs)
   unfolding keep
@@ -191,6 +220,17 @@ upFrom-in i (suc k) x l h = go (ℕ-discrete x i) (upFrom-in (suc i) k x)
     go : Dec (x ≡ i) → (suc i ≤ x → x < suc i + k → List·Memᴰ x (upFrom (suc i) k)) → List·Memᴰ x (i ∷ upFrom (suc i) k)
     go (yes e) rest = List·Memᴰ·head e
     go (no n) rest = List·Memᴰ·tail (rest (omega arith) (omega arith))
+
+pub upFrom-append : (i j k : ℕ) → upFrom i (j + k) ≡ upFrom i j ++ upFrom (i + j) k
+unfolding upFrom
+upFrom-append i zero k =
+    let none : 0 + k ≡ k = omega arith in
+    let here : i + 0 ≡ i = omega arith in
+    rw (none, here)
+upFrom-append i (suc j) k =
+    let one : suc j + k ≡ suc (j + k) = omega arith in
+    let next : i + suc j ≡ suc i + j = omega arith in
+    rw (one, next) (ap (λ (l : List ℕ). i ∷ l) (upFrom-append (suc i) j k))
 
 pub length-upFrom : (i k : ℕ) → length (upFrom i k) ≡ k
 unfolding upFrom

@@ -2,7 +2,7 @@
 use mathlib.Core.Path.{_≡_, refl, sym, ap, subst, _∙_}
 use mathlib.Core.Logic.{_⊎_, inl, inr}
 use mathlib.Core.Bool.{Bool, true, false, cond}
-use mathlib.Core.List.{List, [], _∷_, _++_, map, List·Memᴰ, List·Memᴰ·head, List·Memᴰ·tail, append-nil, append-assoc, Memᴰ·append-right}
+use mathlib.Core.List.{List, [], _∷_, _++_, map, List·Memᴰ, List·Memᴰ·head, List·Memᴰ·tail, append-nil, append-assoc}
 use mathlib.Core.Option.{Option, none, some, Option·map, orElse, Option·some-injective, Option·none-ne-some, map-eq-none-iff}
 use Prim.Native.Nat.{ℕ, _<_, _≤_}
 use native.Mathlib.Omega.{arith}
@@ -13,7 +13,7 @@ use Rattle.rules.specs.Phrases.{Formula, namesIn}
 use Rattle.rules.specs.Texts.{Line, Sheet, OfForm}
 use Rattle.rules.specs.Sheets.{Refusal, refusal, standsIn, firstNameFault, columnFault, needFault, forbidFault, linesFault, namesFault}
 use Rattle.rules.specs.SheetFaults.{Among, IsFault, column-twice, forbid-unknown, forbid-twice, need-unknown}
-use Rattle.rules.proofs.Lists.{holds-fails, not-holds, any-one, any-in}
+use Rattle.rules.proofs.Lists.{holds-fails, not-holds, any-one, any-in, in-middle}
 use Rattle.rules.proofs.Searches.{else-none}
 use Rattle.rules.proofs.Smallest.{NoneMissed, Smallest, smallest-none, smallest-some, smallest-else}
 use Rattle.rules.proofs.Places.{nothing, onward, rise-forward, NamesRise, LinesRise, no-lines, next-line, lines-places}
@@ -196,9 +196,6 @@ in-split : {x : Spot} {xs : List Spot} → List·Memᴰ x xs → (before : List 
 in-split (List·Memᴰ·head {xs} e) = ([], xs, ap (λ (y : Spot). y ∷ xs) (sym e))
 in-split (List·Memᴰ·tail {x = y} m) = let t = in-split m in (y ∷ t .0, t .1, ap (λ (zs : List Spot). y ∷ zs) (t .2))
 
-split-in : {x : Spot} {xs : List Spot} (before after : List Spot) → xs ≡ before ++ (x ∷ after) → List·Memᴰ x xs
-split-in {x} before after e = subst (λ (ys : List Spot). List·Memᴰ x ys) (sym e) (Memᴰ·append-right before (List·Memᴰ·head refl))
-
 module _ (sheet : Sheet) where
   abbrev InColumns : Refusal → Type 0
   InColumns = FaultIn columnFault [] (sheet .columns)
@@ -223,14 +220,14 @@ module _ (sheet : Sheet) where
     where
       go : ((Among (sheet .columns) x → ⊥) × (n ≡ nameUnknown)) ⊎ (Among (sheet .columns) x × Among before x × (n ≡ nameTwice))
           → IsFault sheet (refusal n (x .place))
-      go (inl t) = numbered x n nameUnknown (t .1) (forbid-unknown m (split-in before after q) (t .0))
+      go (inl t) = numbered x n nameUnknown (t .1) (forbid-unknown m (in-middle before after q) (t .0))
       go (inr t) = numbered x n nameTwice (t .2) (forbid-twice before after m q (t .0) (t .1))
 
   needs-fault : {l : Line Formula} {f : Refusal} → List·Memᴰ l (sheet .needs) → FaultAt (needFault (sheet .columns)) [] (namesIn (l .value)) f
       → IsFault sheet f
   needs-fault m (fault-at before after x n q e) =
       let t = need-means (sheet .columns) before x n e in
-      numbered x n nameUnknown (t .1) (need-unknown m (split-in before after q) (t .0))
+      numbered x n nameUnknown (t .1) (need-unknown m (in-middle before after q) (t .0))
 
   found-fault : (f : Refusal) → InColumns f ⊎ (InForbids f ⊎ InNeeds f) → IsFault sheet f
   found-fault f (inl i) = columns-fault (in-at columnFault i)

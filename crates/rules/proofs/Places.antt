@@ -1,6 +1,6 @@
 -- In a text of the form the places of names and lines rise. Assumes nothing.
-use mathlib.Core.Path.{_≡_, ap, subst}
-use mathlib.Core.List.{List, [], _∷_, _++_, List·Memᴰ, List·Memᴰ·head, List·Memᴰ·tail}
+use mathlib.Core.Path.{_≡_, refl, ap, subst, subst⁻¹}
+use mathlib.Core.List.{List, [], _∷_, _++_, List·Memᴰ, List·Memᴰ·head, List·Memᴰ·tail, Memᴰ·append-right}
 use Prim.Native.Nat.{ℕ, zero, suc, _+_, _<_, _≤_}
 use native.Mathlib.Nat.{le-refl}
 use native.Mathlib.Omega.{arith}
@@ -48,6 +48,13 @@ module _ {A : Type 0} (place : A → ℕ) where
   rise-drop (suc k) (nothing l) = nothing l
   rise-drop (suc k) {p} (onward {x} l r) = let h : p ≤ suc (place x) = omega arith in rise-drop k (rise-wider h (le-refl _) r)
 
+  -- of what rises one before another has the smaller place
+  pub rise-before : {p q : ℕ} {y : A} (before : List A) (x : A) (after : List A) → Rise p q (before ++ (x ∷ after)) → List·Memᴰ y before
+      → place y < place x
+  rise-before (z ∷ before) x after (onward l r) (List·Memᴰ·head e) =
+      omega (arith, rise-within r (Memᴰ·append-right before (List·Memᴰ·head refl)) .0, ap place e)
+  rise-before (z ∷ before) x after (onward l r) (List·Memᴰ·tail m) = rise-before before x after r m
+
 -- the places of names rise
 abbrev pub NamesRise : ℕ → ℕ → List Spot → Type 0
 NamesRise = Rise (λ (x : Spot). x .place)
@@ -75,6 +82,13 @@ module _ {A : Type 0} (namesAt : A → List Spot) where
       let f = rise-forward _ n in
       let h = lines-names r m i in
       (omega arith, omega arith)
+
+  -- of lines that rise the names of each do
+  pub line-rises : {p q : ℕ} {l : Line A} {lines : List (Line A)} → LinesRise p q lines → List·Memᴰ l lines
+      → (from : ℕ) × (to : ℕ) × NamesRise from to (namesAt (l .value))
+  line-rises (next-line {r} {l} k n more) (List·Memᴰ·head e) =
+      (suc (l .place), r, subst⁻¹ (λ (k : Line A). NamesRise (suc (l .place)) r (namesAt (k .value))) e n)
+  line-rises (next-line k n more) (List·Memᴰ·tail m) = line-rises more m
 
 -- ---- names, phrases, lines
 

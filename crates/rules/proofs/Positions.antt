@@ -1,6 +1,6 @@
 -- Laws of where a place of a text is: at its beginning, one byte further, past its end; and where the names, the lines and the end of a text of the form
 -- are. Assumes nothing.
-use mathlib.Core.Path.{_≡_, refl, ap, subst⁻¹, _∙_}
+use mathlib.Core.Path.{_≡_, refl, sym, ap, subst⁻¹, _∙_}
 use mathlib.Core.Logic.{_⊎_, inl, inr, ⊎-elim}
 use mathlib.Core.Bool.{true}
 use mathlib.Core.List.{List, [], _∷_, _++_, List·Memᴰ, List·Memᴰ·head, List·Memᴰ·tail, List·Memᴰ·append-cases, List·Memᴰ·eq-of-singleton}
@@ -14,7 +14,7 @@ use lib.Seq.{take-suc, take-all, take-length}
 use borrow.Author.Tests.{ne-eqb, ltb-true, leb-true}
 use Rattle.rules.specs.Lists.{every}
 use Rattle.rules.specs.Signs.{byteAt, piece, Says, says-all, says-byte, letter, digit, inName, lineEnd, forbidKey, needKey}
-use Rattle.rules.specs.Names.{Spot, spot, Name, Names, last-name, more-names}
+use Rattle.rules.specs.Names.{Spot, spot, Name, Names, last-name, more-names, nameAt}
 use Rattle.rules.specs.Phrases.{Formula, namesIn, Join, ors, ands, signOf, joinOf, Kind, item, list, rest, operand}
 use Rattle.rules.specs.Phrases.{Stands, first, last, next, name, bracketed}
 use Rattle.rules.specs.Texts.{Line, Lines, no-line, one-line, Sheet, OfForm}
@@ -22,7 +22,7 @@ use Rattle.rules.specs.Sheets.{linesIn}
 use Rattle.rules.specs.Positions.{Position, behind, behindAll, positionOf}
 use Rattle.rules.proofs.Lists.{and-parts, or-one}
 use Rattle.rules.proofs.Signs.{inside}
-use Rattle.rules.proofs.Names.{name-some}
+use Rattle.rules.proofs.Names.{name-some, name-run}
 use Rattle.rules.proofs.Phrases.{operand-moves, phrase-moves}
 
 -- ---- byte by byte
@@ -191,6 +191,10 @@ module _ (s : List ℕ) where
     pub bytes : x .name ≡ piece s (x .place) end
     pub line : positionOf s (x .place) .line ≡ n
     pub column : 1 < positionOf s (x .place) .column
+
+  -- so it is the name at that place
+  pub named-at : {n : ℕ} {x : Spot} → NamedIn n x → nameAt s (x .place) ≡ x .name
+  named-at m = name-run (m .name .run) ∙ sym (m .bytes)
 
   named-in : {p r n : ℕ} {x : Spot} → Begins p n → p < r → Along p r → NamedFrom r x → NamedIn n x
   named-in b l a m =

@@ -143,6 +143,13 @@ faulty-exactly s number p m = (λ h. from (cause h), into)
         let some = fault-exactly (a .sheet) (a .form) (refusal number p) .1 (a .fault) in
         rw (← (reading-refused (a .sheet) (refusal number p) some)) (of-form (a .sheet) (a .short) (a .form))
 
+-- so such a refusal comes from a fault of what the text says
+pub refused-fault : {s : List ℕ} {number p : ℕ} → 2 < number → Reads s (refused number p) → (sheet : Sheet) → OfForm s sheet
+    → HasFault sheet (refusal number p)
+refused-fault {s} {number} {p} over h sheet form =
+    let f = faulty-exactly s number p over .0 h in
+    subst (λ (k : Sheet). HasFault k (refusal number p)) (sheet-unique (f .form) form) (f .fault)
+
 -- a refusal of a text has one of the numbers 1 to 6
 pub refused-numbers : {s : List ℕ} {number p : ℕ} → Reads s (refused number p) → (0 < number) × (number < 7)
 refused-numbers {s} {number} {p} h = go (cause h)

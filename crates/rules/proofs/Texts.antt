@@ -32,7 +32,7 @@ module _ {A : Type 0} {s key : List ℕ} {Value : ℕ → ℕ → A → Type 0}
 -- ---- the number
 
 -- no digit ends a line
-digit-or-end : (b : ℕ) → digit b ≡ true → b ≡ lineEnd → ⊥
+pub digit-or-end : (b : ℕ) → digit b ≡ true → b ≡ lineEnd → ⊥
 digit-or-end b d e = let l = leb-true 48 b (and-parts _ _ d .0) in omega arith
 
 -- from one place a number that ends its line goes to one place only and is one number

@@ -1,8 +1,8 @@
 -- Going through a text of the form from its beginning finds the smallest place of what is too many. Assumes nothing.
-use mathlib.Core.Path.{_≡_, refl, sym, ap, subst}
+use mathlib.Core.Path.{_≡_, refl, sym, ap, subst, _∙_}
 use mathlib.Core.Logic.{_⊎_, inl, inr}
 use mathlib.Core.List.{List, [], _∷_, List·Memᴰ, List·Memᴰ·head, List·Memᴰ·tail}
-use mathlib.Core.Option.{none, some, Option·map, Option·none-ne-some}
+use mathlib.Core.Option.{Option, none, some, Option·map, Option·none-ne-some}
 use Prim.Native.Nat.{ℕ, zero, suc, _<_, _≤_}
 use native.Mathlib.Omega.{arith}
 use lib.ListN.{length, drop}
@@ -14,6 +14,7 @@ use Rattle.rules.specs.Phrases.{Formula, namesIn}
 use Rattle.rules.specs.Texts.{Line, Sheet, OfForm}
 use Rattle.rules.specs.Sheets.{nameAfter, lineAfter, needsOver, firstOver}
 use Rattle.rules.specs.SheetFaults.{IsOver, column-over, forbid-over, need-over, name-over}
+use Rattle.rules.proofs.Lists.{drop-in}
 use Rattle.rules.proofs.Searches.{else-none}
 use Rattle.rules.proofs.Smallest.{NoneMissed, Smallest, smallest-none, smallest-some, smallest-else}
 use Rattle.rules.proofs.Places.{Rise, nothing, onward, rise-forward, rise-within, rise-drop, LinesRise, no-lines, next-line}
@@ -45,11 +46,6 @@ module _ {A : Type 0} (place : A → ℕ) where
 data NeedOver (k : ℕ) (lines : List (Line Formula)) : ℕ → Type 0 where
   line-over : {l : Line Formula} → List·Memᴰ l (drop k lines) → NeedOver k lines (l .place)
   in-line : {l : Line Formula} {x : Spot} → List·Memᴰ l lines → List·Memᴰ x (drop mostColumnMarks (namesIn (l .value))) → NeedOver k lines (x .place)
-
-drop-in : {A : Type 0} {x : A} (k : ℕ) (xs : List A) → List·Memᴰ x (drop k xs) → List·Memᴰ x xs
-drop-in zero xs m = m
-drop-in (suc k) [] m = m
-drop-in (suc k) (y ∷ xs) m = List·Memᴰ·tail (drop-in k xs m)
 
 -- a line's names too many are those of the same line
 same-names : {l l′ : Line Formula} {x : Spot} → l ≡ l′ → List·Memᴰ x (drop mostColumnMarks (namesIn (l .value)))
@@ -179,6 +175,17 @@ over-smallest sheet p form e = let t = found p e in (t .0, λ q h. least q (t .1
     least : (q : ℕ) → (p ≡ q) ⊎ (p < q) → p ≤ q
     least q (inl h) = omega arith
     least q (inr h) = omega arith
+
+-- so the smallest such place is the one that is found
+pub over-found : {s : List ℕ} {sheet : Sheet} {p : ℕ} → OfForm s sheet → IsOver sheet p → ((q : ℕ) → IsOver sheet q → p ≤ q) → firstOver sheet ≡ some p
+over-found {sheet} {p} form a b = go (firstOver sheet) refl
+  where
+    go : (o : Option ℕ) → firstOver sheet ≡ o → firstOver sheet ≡ some p
+    go none e = absurd (over-none sheet p e a)
+    go (some q) e =
+        let least = over-smallest sheet q form e in
+        let same : q ≡ p = omega (arith, b q (least .0), least .1 p a) in
+        e ∙ ap (λ (k : ℕ). some k) same
 
 -- in a text of the form what is too many stands within the text
 pub over-within : {s : List ℕ} (sheet : Sheet) (p : ℕ) → OfForm s sheet → IsOver sheet p → p < length s

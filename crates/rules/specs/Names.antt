@@ -1,9 +1,10 @@
 -- Names in a job text. "A name is lowercase letters and digits, first a letter." "Names 1 to 12 bytes."
 use mathlib.Core.Path.{_≡_}
-use mathlib.Core.Bool.{Bool, true, false, _&&_}
+use mathlib.Core.Bool.{Bool, true, false, cond, _&&_}
 use mathlib.Core.List.{List, [], _∷_}
 use Prim.Native.Nat.{ℕ, _+_, _<_, _≤_}
 use lib.Dec.{eqb}
+use lib.ListN.{drop}
 use Rattle.rules.specs.Signs.{byteAt, piece, letter, inName}
 
 abbrev pub mostNameBytes : ℕ
@@ -34,6 +35,15 @@ pub data Names (s : List ℕ) (sign : ℕ) : ℕ → ℕ → List Spot → Type 
   last-name : {p q : ℕ} → Name s p q → (byteAt s q ≡ sign → ⊥) → Names s sign p q (spot s p q ∷ [])
   more-names : {p r q : ℕ} {spots : List Spot} → Name s p r → byteAt s r ≡ sign → Names s sign (r + 1) q spots
       → Names s sign p q (spot s p r ∷ spots)
+
+-- the letters and digits that a list begins with
+unfoldable pub beginning : List ℕ → List ℕ
+beginning [] = []
+beginning (b ∷ s) = cond (inName b) (b ∷ beginning s) []
+
+-- those that stand from place p on
+abbrev pub nameAt : List ℕ → ℕ → List ℕ
+nameAt s p = beginning (drop p s)
 
 -- two names are the same
 unfoldable pub sameName : List ℕ → List ℕ → Bool

@@ -1,11 +1,11 @@
 -- The bytes of a job text. A byte is a number, as ASCII has it.
 use mathlib.Core.Path.{_≡_}
-use mathlib.Core.Bool.{Bool, _&&_, _||_}
+use mathlib.Core.Bool.{Bool, true, _&&_, _||_}
 use mathlib.Core.List.{List, [], _∷_}
 use Prim.Native.Char.{code}
 use Prim.Native.Nat.{ℕ, suc, _-_}
 use Prim.Native.String.{String, [] as nothing, _∷_ as _before_}
-use lib.Dec.{leb}
+use lib.Dec.{eqb, leb}
 use lib.ListN.{getD, take, drop}
 
 -- the byte at a place; 0 past the end, which is no byte of the form
@@ -20,6 +20,11 @@ piece s p q = take (q - p) (drop p s)
 pub data Says (s : List ℕ) : ℕ → List ℕ → Type 0 where
   says-all : {p : ℕ} → Says s p []
   says-byte : {p b : ℕ} {bytes : List ℕ} → byteAt s p ≡ b → Says s (suc p) bytes → Says s p (b ∷ bytes)
+
+-- the same as a test
+unfoldable pub saysAt : List ℕ → ℕ → List ℕ → Bool
+saysAt s p [] = true
+saysAt s p (b ∷ bytes) = eqb (byteAt s p) b && saysAt s (suc p) bytes
 
 -- "a name is lowercase letters and digits"
 abbrev pub letter : ℕ → Bool

@@ -1,5 +1,4 @@
 -- `advice::remedy::put_count` meets its contract. Assumes nothing.
-use mathlib.Core.Path.{sym}
 use Rattle.writing.proofs.Adding.{adds-both}
 use borrow.Author.Needs.{needs}
 use Rattle.advice.proofs.remedy.put_count.Statement.{statement}
@@ -10,9 +9,6 @@ slice-aggregate-put c = search needs
 
 put-requires : tie.Need-put-requires
 put-requires c κs = search needs
-
-less-requires : tie.Need-less-requires
-less-requires c κs = search needs
 
 put-number-requires : tie.Need-put-number-requires
 put-number-requires c κs = search needs
@@ -30,8 +26,8 @@ returns : tie.Need-returns
 returns c =
     let last = c .before .before in
     let number = last .before .before .before .before .before in
-    let first = number .before .before .before .before .before in
-    rw (sym (number .before .less .ensures)) (adds-both (first .put .ensures) (adds-both (number .put-number .ensures) (last .put2 .ensures)))
+    let first = number .before .before .before .before in
+    adds-both (first .put .ensures) (adds-both (number .put-number .ensures) (last .put2 .ensures))
 
 pub put-count-spec : {M : Type 1} → statement M
 put-count-spec =
@@ -39,7 +35,6 @@ put-count-spec =
     (tie.spec
     slice-aggregate-put
     put-requires
-    less-requires
     put-number-requires
     slice-aggregate-put-2
     put-requires-2

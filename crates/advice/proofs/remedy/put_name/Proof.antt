@@ -1,7 +1,7 @@
 -- `advice::remedy::put_name` meets its contract. Assumes nothing.
 use native.Mathlib.Omega.{arith}
 use Rattle.writing.proofs.Adding.{adds-nothing}
-use Rattle.advice.proofs.Named.{run-within, name-none, name-run}
+use Rattle.rules.proofs.Names.{run-within, name-none, name-run}
 use borrow.Author.Needs.{needs}
 use Rattle.advice.proofs.remedy.put_name.Statement.{statement}
 use Rattle.advice.proofs.remedy.put_name.Tie as tie

@@ -79,6 +79,9 @@ returns-5 c =
     let call = c .before .before in
     rw (call .before .before .before .if5 .taken) (call .put-named2 .ensures)
 
+counted-lines-requires : tie.Need-counted-lines-requires
+counted-lines-requires c κs = search needs
+
 put-count-requires : tie.Need-put-count-requires
 put-count-requires c κs = search needs
 
@@ -89,13 +92,14 @@ returns-6 : tie.Need-returns-6
 unfolding remedy
 returns-6 c =
     let call = c .before .before in
-    let test = call .before .before in
+    let test = call .before .before .before in
     rw (
       ne-eqb _ textTooLong (test .before .before .before .before .if1 .left),
       ne-eqb _ textNotOfForm (test .before .before .before .if2 .left),
       ne-eqb _ tooMany (test .before .before .if3 .left),
       ne-eqb _ nameTwice (test .before .if4 .left),
       ne-eqb _ nameUnknown (test .if5 .left),
+      sym (call .before .counted-lines .ensures),
     )
     (call .put-count .ensures)
 
@@ -122,6 +126,7 @@ put-remedy-spec =
     put-named-requires-2
     same-length-5
     returns-5
+    counted-lines-requires
     put-count-requires
     same-length-6
     returns-6)

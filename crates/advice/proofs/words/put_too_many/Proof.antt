@@ -1,6 +1,6 @@
 -- `advice::words::put_too_many` meets its contract. Assumes nothing.
-use mathlib.Core.Path.{sym}
 use borrow.Author.Tests.{ne-eqb}
+use Rattle.rules.proofs.Signs.{says-test, says-not}
 use Rattle.advice.specs.Sentences.{tooManyWords}
 use borrow.Author.Needs.{needs}
 use Rattle.advice.proofs.words.put_too_many.Statement.{statement}
@@ -37,8 +37,8 @@ returns-2 c =
     let test = call .before .before .before in
     rw (ne-eqb _ 1 (test .before .before .if1 .left), ne-eqb _ 1 (test .if2 .taken)) (call .put2 .ensures)
 
-byte-requires : tie.Need-byte-requires
-byte-requires c κs = search needs
+key-stands-requires : tie.Need-key-stands-requires
+key-stands-requires c κs = search needs
 
 slice-aggregate-put-3 : tie.Need-slice-aggregate-put-3
 slice-aggregate-put-3 c = search needs
@@ -55,7 +55,8 @@ returns-3 c =
     let call = c .before .before in
     let test = call .before .before .before in
     let here = test .before .before in
-    rw (ne-eqb _ 1 (here .before .before .if1 .left), here .if2 .left, sym (test .before .byte .ensures), test .if3 .taken) (call .put3 .ensures)
+    rw (ne-eqb _ 1 (here .before .before .if1 .left), here .if2 .left, says-test (test .before .key-stands .ensures .0 (test .if3 .taken)))
+    (call .put3 .ensures)
 
 slice-aggregate-put-4 : tie.Need-slice-aggregate-put-4
 slice-aggregate-put-4 c = search needs
@@ -72,7 +73,7 @@ returns-4 c =
     let call = c .before .before in
     let test = call .before .before .before in
     let here = test .before .before in
-    rw (ne-eqb _ 1 (here .before .before .if1 .left), here .if2 .left, sym (test .before .byte .ensures), ne-eqb _ 102 (test .if3 .left))
+    rw (ne-eqb _ 1 (here .before .before .if1 .left), here .if2 .left, says-not _ _ _ (test .before .key-stands .ensures .1 (test .if3 .left)))
     (call .put4 .ensures)
 
 pub put-too-many-spec : {M : Type 1} → statement M
@@ -87,7 +88,7 @@ put-too-many-spec =
     put-requires-2
     same-length-2
     returns-2
-    byte-requires
+    key-stands-requires
     slice-aggregate-put-3
     put-requires-3
     same-length-3

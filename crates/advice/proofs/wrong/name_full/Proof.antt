@@ -7,7 +7,7 @@ use borrow.Author.Tests.{not-true, not-false}
 use Rattle.rules.specs.Signs.{byteAt, inName}
 use Rattle.rules.specs.Names.{mostNameBytes}
 use Rattle.naming.proofs.Runs.{from-more}
-use Rattle.advice.proofs.Named.{full-none, full-other, full-all}
+use Rattle.advice.proofs.FullNames.{full-none, full-other, full-all}
 use borrow.Author.Needs.{needs}
 use Rattle.advice.proofs.wrong.name_full.Statement.{statement}
 use Rattle.advice.proofs.wrong.name_full.Tie as tie
