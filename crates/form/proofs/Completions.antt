@@ -5,13 +5,15 @@ use mathlib.Core.Bool.{Bool, true, false, cond}
 use mathlib.Core.List.{List, [], _∷_, _++_}
 use Prim.Native.Nat.{ℕ, zero, suc, _+_, _-_, _<_}
 use native.Mathlib.Omega.{arith}
-use lib.Dec.{ltb, eqb·suc-zero}
+use lib.Dec.{ltb}
 use lib.ListN.{length, drop, drop-of-length-le}
 use lib.Seq.{drop-cons}
 use Rattle.rules.specs.Signs.{lineEnd, bracketClose}
+use Rattle.form.specs.declared.machine.Digits.{Digits}
+use Rattle.form.specs.declared.machine.Digits.the-variants.{None, Zero, Other, Two}
 use Rattle.form.specs.declared.machine.State.{State}
 use Rattle.form.specs.declared.machine.State.the-variants.{Key, Begin, Name, Closed, Number, Done, Wrong}
-use Rattle.form.specs.Machine.{needSection, endSection, noDigit, keyOf, valueOf, step, InsideKey, run}
+use Rattle.form.specs.Machine.{needSection, endSection, keyOf, valueOf, step, InsideKey, run}
 use Rattle.form.proofs.Keys.{along-on, along-behind}
 use Rattle.form.proofs.Runs.{run-append}
 
@@ -44,17 +46,19 @@ complete-name : (section n opened : ℕ) → CanEnd (Name section n opened)
 complete-name section zero opened = byte-more 97 (Name section zero opened) (complete-named section 0 opened)
 complete-name section (suc n) opened = complete-named section n opened
 
-complete-number : (digits : ℕ) → CanEnd (Number digits)
+complete-number : (digits : Digits) → CanEnd (Number digits)
 unfolding run
-complete-number zero = (48 ∷ lineEnd ∷ [], refl)
-complete-number (suc n) = (lineEnd ∷ [], rw (eqb·suc-zero n))
+complete-number None = (48 ∷ lineEnd ∷ [], refl)
+complete-number Zero = (lineEnd ∷ [], refl)
+complete-number Other = (lineEnd ∷ [], refl)
+complete-number Two = (lineEnd ∷ [], refl)
 
 complete-value : (section : ℕ) → CanEnd (valueOf section)
 complete-value section = go (ltb section endSection)
   where
-    go : (below : Bool) → CanEnd (cond below (Name section 0 0) (Number noDigit))
+    go : (below : Bool) → CanEnd (cond below (Name section 0 0) (Number None))
     go true = complete-name section 0 0
-    go false = complete-number noDigit
+    go false = complete-number None
 
 -- the rest of a key leads behind it
 run-key : (left section k : ℕ) → suc k + left ≡ length (keyOf section) → run (Key section k) (drop k (keyOf section)) ≡ valueOf section

@@ -9,9 +9,11 @@ use borrow.Author.Tests.{ltb-true}
 use Rattle.rules.specs.Signs.{letter, digit, inName, bracketOpen, bracketClose, lineEnd}
 use Rattle.rules.specs.Phrases.{mostBrackets}
 use Rattle.rules.specs.Names.{mostNameBytes}
+use Rattle.form.specs.declared.machine.Digits.{Digits}
+use Rattle.form.specs.declared.machine.Digits.the-variants.{None, Zero, Other, Two}
 use Rattle.form.specs.declared.machine.State.{State}
 use Rattle.form.specs.declared.machine.State.the-variants.{Key, Begin, Name, Closed, Number, Done, Wrong}
-use Rattle.form.specs.Machine.{needSection, endSection, noDigit, otherDigit, onDigit}
+use Rattle.form.specs.Machine.{needSection, endSection, onDigit, numberEnding}
 use Rattle.form.specs.Machine.{keyOf, valueOf, atLine, joining, atItem, closing, lineEnding, behindItem}
 use Rattle.form.specs.Machine.{inNumber, step, InsideKey, begin, run, stateAt}
 
@@ -21,7 +23,7 @@ inside-cond true x y f g = f refl
 inside-cond false x y f g = g
 
 inside-value : (section : ℕ) → InsideKey (valueOf section)
-inside-value section = inside-cond (ltb section endSection) (Name section 0 0) (Number noDigit) (λ e. tt) tt
+inside-value section = inside-cond (ltb section endSection) (Name section 0 0) (Number None) (λ e. tt) tt
 
 inside-item : (section opened b : ℕ) → InsideKey (atItem section opened b)
 inside-item section opened b =
@@ -42,14 +44,21 @@ inside-behind section opened b =
     inside-cond (joining section b) _ _ (λ e. tt)
     (inside-cond (eqb b bracketClose) _ _ (λ e. inside-closing opened) (inside-cond (eqb b lineEnd) _ _ (λ e. inside-ending section opened) tt))
 
-inside-digit : (digits b : ℕ) → InsideKey (onDigit digits b)
-inside-digit digits b =
-    inside-cond (eqb digits noDigit) _ _ (λ e. inside-cond (eqb b 48) _ _ (λ e. tt) tt) (inside-cond (eqb digits otherDigit) _ _ (λ e. tt) tt)
+inside-digit : (digits : Digits) (b : ℕ) → InsideKey (onDigit digits b)
+inside-digit None b = inside-cond (eqb b 48) _ _ (λ e. tt) tt
+inside-digit Zero b = tt
+inside-digit Other b = tt
+inside-digit Two b = tt
 
-inside-number : (digits b : ℕ) → InsideKey (inNumber digits b)
+inside-number-ending : (digits : Digits) → InsideKey (numberEnding digits)
+inside-number-ending None = tt
+inside-number-ending Zero = tt
+inside-number-ending Other = tt
+inside-number-ending Two = tt
+
+inside-number : (digits : Digits) (b : ℕ) → InsideKey (inNumber digits b)
 inside-number digits b =
-    inside-cond (eqb b lineEnd) _ _ (λ e. inside-cond (eqb digits noDigit) _ _ (λ e. tt) tt)
-    (inside-cond (digit b) _ _ (λ e. inside-digit digits b) tt)
+    inside-cond (eqb b lineEnd) _ _ (λ e. inside-number-ending digits) (inside-cond (digit b) _ _ (λ e. inside-digit digits b) tt)
 
 inside-line : (section b : ℕ) → InsideKey (atLine section b)
 inside-line section b =

@@ -8,6 +8,7 @@ use native.Mathlib.Nat.{lt-of-not-le}
 use native.Mathlib.Omega.{arith}
 use lib.ListN.{length}
 use Rattle.rules.specs.Signs.{byteAt}
+use Rattle.form.specs.declared.machine.Digits.{Digits}
 use Rattle.form.specs.declared.machine.State.{State}
 use Rattle.form.specs.declared.machine.State.the-variants.{Key, Begin, Name, Closed, Number, Done, Wrong}
 use Rattle.form.specs.Machine.{step, begin, run, stateAt}
@@ -35,7 +36,7 @@ not-name e = let z : _≡_ {A = ℕ} 0 1 = cc in omega arith
 pub not-closed : {opened : ℕ} → Closed opened ≡ Done → ⊥
 not-closed e = let z : _≡_ {A = ℕ} 0 1 = cc in omega arith
 
-pub not-number : {digits : ℕ} → Number digits ≡ Done → ⊥
+pub not-number : {digits : Digits} → Number digits ≡ Done → ⊥
 not-number e = let z : _≡_ {A = ℕ} 0 1 = cc in omega arith
 
 module _ {s : List ℕ} (led : LeadsToEnd s) where

@@ -12,8 +12,10 @@ use lib.Seq.{drop-cons}
 use borrow.Author.Tests.{lt-ltb, le-ltb, eqb-true, eqb-false}
 use Rattle.rules.specs.Signs.{byteAt, Says, says-all, says-byte, digit, lineEnd}
 use Rattle.rules.specs.Texts.{Line, line, Lines, no-line, one-line, Number as NumberAt, one-digit, two-digits}
+use Rattle.form.specs.declared.machine.Digits.{Digits}
+use Rattle.form.specs.declared.machine.Digits.the-variants.{None, Zero, Other, Two}
 use Rattle.form.specs.declared.machine.State.the-variants.{Key, Begin, Name, Number, Done, Wrong}
-use Rattle.form.specs.Machine.{onDigit, noDigit, digitZero, otherDigit, twoDigits, keyOf, valueOf, step, stateAt}
+use Rattle.form.specs.Machine.{onDigit, numberEnding, keyOf, valueOf, step, stateAt}
 use Rattle.form.proofs.Keys.{key-said}
 use Rattle.form.proofs.Runs.{cond-holds, cond-fails}
 use Rattle.form.proofs.Living.{LeadsToEnd, decided, not-key, not-line, not-number, alive, within, goes, must, forks}
@@ -108,8 +110,8 @@ module _ {s : List ℕ} (led : LeadsToEnd s) where
   -- ---- the number
 
   -- an LF or a digit follows
-  number-step : (p digits : ℕ) → stateAt s p ≡ Number digits
-      → ((byteAt s p ≡ lineEnd) × (stateAt s (p + 1) ≡ cond (eqb digits noDigit) Wrong Done))
+  number-step : (p : ℕ) (digits : Digits) → stateAt s p ≡ Number digits
+      → ((byteAt s p ≡ lineEnd) × (stateAt s (p + 1) ≡ numberEnding digits))
       ⊎ ((digit (byteAt s p) ≡ true)
       × (stateAt s (p + 1) ≡ onDigit digits (byteAt s p)))
   number-step p digits e =
@@ -118,32 +120,32 @@ module _ {s : List ℕ} (led : LeadsToEnd s) where
       (forks led (p + 1) (eqb b lineEnd) _ _ (goes led p (Number digits) not-number e))
 
   -- behind a first digit 0
-  zero-number : (p : ℕ) → digit (byteAt s p) ≡ true → stateAt s (p + 1) ≡ Number digitZero → NumberFrom s p
+  zero-number : (p : ℕ) → digit (byteAt s p) ≡ true → stateAt s (p + 1) ≡ Number Zero → NumberFrom s p
   zero-number p d e =
       ⊎-elim
       (λ ended. (p + 1, _, one-digit d, ended .0, ended .1))
       (λ more. absurd (alive led (p + 1 + 1) (more .1)))
-      (number-step (p + 1) digitZero e)
+      (number-step (p + 1) Zero e)
 
   -- behind two digits
   two-number : (p : ℕ) → digit (byteAt s p) ≡ true → (byteAt s p ≡ 48 → ⊥) → digit (byteAt s (p + 1)) ≡ true
-      → stateAt s (p + 1 + 1) ≡ Number twoDigits → NumberFrom s p
+      → stateAt s (p + 1 + 1) ≡ Number Two → NumberFrom s p
   two-number p d n d′ e =
       let place : p + 1 + 1 ≡ p + 2 = omega arith in
       ⊎-elim
       (λ ended. (p + 2, _, two-digits d n d′, ended .0, ended .1))
       (λ more. absurd (alive led (p + 2 + 1) (more .1)))
-      (number-step (p + 2) twoDigits (subst (λ (q : ℕ). stateAt s q ≡ Number twoDigits) place e))
+      (number-step (p + 2) Two (subst (λ (q : ℕ). stateAt s q ≡ Number Two) place e))
 
   -- behind another first digit
-  other-number : (p : ℕ) → digit (byteAt s p) ≡ true → (byteAt s p ≡ 48 → ⊥) → stateAt s (p + 1) ≡ Number otherDigit → NumberFrom s p
+  other-number : (p : ℕ) → digit (byteAt s p) ≡ true → (byteAt s p ≡ 48 → ⊥) → stateAt s (p + 1) ≡ Number Other → NumberFrom s p
   other-number p d n e =
       ⊎-elim
       (λ ended. (p + 1, _, one-digit d, ended .0, ended .1))
       (λ on. two-number p d n (on .0) (on .1))
-      (number-step (p + 1) otherDigit e)
+      (number-step (p + 1) Other e)
 
-  first-digit : (p : ℕ) → digit (byteAt s p) ≡ true → stateAt s (p + 1) ≡ cond (eqb (byteAt s p) 48) (Number digitZero) (Number otherDigit)
+  first-digit : (p : ℕ) → digit (byteAt s p) ≡ true → stateAt s (p + 1) ≡ cond (eqb (byteAt s p) 48) (Number Zero) (Number Other)
       → NumberFrom s p
   first-digit p d e =
       let b = byteAt s p in
@@ -153,9 +155,9 @@ module _ {s : List ℕ} (led : LeadsToEnd s) where
       (forks led (p + 1) (eqb b 48) _ _ e)
 
   -- the number can be read behind its key
-  pub read-number : (p : ℕ) → stateAt s p ≡ Number noDigit → NumberFrom s p
+  pub read-number : (p : ℕ) → stateAt s p ≡ Number None → NumberFrom s p
   read-number p e =
       ⊎-elim
       (λ ended. absurd (alive led (p + 1) (ended .1)))
       (λ on. first-digit p (on .0) (on .1))
-      (number-step p noDigit e)
+      (number-step p None e)

@@ -17,9 +17,11 @@ use Rattle.rules.specs.Phrases.{Stands, first, last, next, name, bracketed}
 use Rattle.rules.specs.Texts.{Line, Lines, no-line, one-line, Number as NumberAt, one-digit, two-digits, HasForm}
 use Rattle.rules.proofs.Signs.{inside, named-inside, says-first}
 use Rattle.rules.proofs.Names.{name-begins, name-some}
+use Rattle.form.specs.declared.machine.Digits.{Digits}
+use Rattle.form.specs.declared.machine.Digits.the-variants.{None, Zero, Other, Two}
 use Rattle.form.specs.declared.machine.State.{State}
 use Rattle.form.specs.declared.machine.State.the-variants.{Key, Begin, Name, Closed, Number, Done, Wrong}
-use Rattle.form.specs.Machine.{columnsSection, forbidSection, needSection, endSection, noDigit, digitZero, otherDigit, twoDigits, onDigit}
+use Rattle.form.specs.Machine.{columnsSection, forbidSection, needSection, endSection, onDigit, numberEnding}
 use Rattle.form.specs.Machine.{keyOf, valueOf, joining, behindItem, step, begin, run, stateAt}
 use Rattle.form.proofs.Signs.{digit-not}
 use Rattle.form.proofs.Keys.{forbid-begins, key-byte, along-on, along-behind}
@@ -165,26 +167,26 @@ module _ (s : List ℕ) where
 
   -- ---- the number
 
-  digit-walk : (p digits : ℕ) → digit (byteAt s p) ≡ true → stateAt s p ≡ Number digits
+  digit-walk : (p : ℕ) (digits : Digits) → digit (byteAt s p) ≡ true → stateAt s p ≡ Number digits
       → stateAt s (p + 1) ≡ onDigit digits (byteAt s p)
   digit-walk p digits d e =
       let b = byteAt s p in
       state-from p (Number digits) (inside s p (digit-not b 0 refl d)) e
-      ∙ cond-fails (eqb b lineEnd) (cond (eqb digits noDigit) Wrong Done) _ (ne-eqb b lineEnd (digit-not b lineEnd refl d))
+      ∙ cond-fails (eqb b lineEnd) (numberEnding digits) _ (ne-eqb b lineEnd (digit-not b lineEnd refl d))
       ∙ cond-holds (digit b) _ Wrong d
 
-  number-walk : {p q v : ℕ} → NumberAt s p q v → stateAt s p ≡ Number noDigit → byteAt s q ≡ lineEnd → stateAt s (q + 1) ≡ Done
-  number-walk (one-digit {p} d) e ended = go (eqb (byteAt s p) 48) (digit-walk p noDigit d e)
+  number-walk : {p q v : ℕ} → NumberAt s p q v → stateAt s p ≡ Number None → byteAt s q ≡ lineEnd → stateAt s (q + 1) ≡ Done
+  number-walk (one-digit {p} d) e ended = go (eqb (byteAt s p) 48) (digit-walk p None d e)
     where
-      go : (zeroth : Bool) → stateAt s (p + 1) ≡ cond zeroth (Number digitZero) (Number otherDigit) → stateAt s (p + 1 + 1) ≡ Done
-      go true f = state-by s (p + 1) lineEnd (Number digitZero) f ended (lit< tt)
-      go false f = state-by s (p + 1) lineEnd (Number otherDigit) f ended (lit< tt)
+      go : (zeroth : Bool) → stateAt s (p + 1) ≡ cond zeroth (Number Zero) (Number Other) → stateAt s (p + 1 + 1) ≡ Done
+      go true f = state-by s (p + 1) lineEnd (Number Zero) f ended (lit< tt)
+      go false f = state-by s (p + 1) lineEnd (Number Other) f ended (lit< tt)
   number-walk (two-digits {p} d n d′) e ended =
-      let one : stateAt s (p + 1) ≡ Number otherDigit =
-      digit-walk p noDigit d e ∙ cond-fails (eqb (byteAt s p) 48) (Number digitZero) (Number otherDigit) (ne-eqb (byteAt s p) 48 n) in
-      let two : stateAt s (p + 1 + 1) ≡ Number twoDigits = digit-walk (p + 1) otherDigit d′ one in
+      let one : stateAt s (p + 1) ≡ Number Other =
+      digit-walk p None d e ∙ cond-fails (eqb (byteAt s p) 48) (Number Zero) (Number Other) (ne-eqb (byteAt s p) 48 n) in
+      let two : stateAt s (p + 1 + 1) ≡ Number Two = digit-walk (p + 1) Other d′ one in
       let place : p + 1 + 1 ≡ p + 2 = omega arith in
-      state-by s (p + 2) lineEnd (Number twoDigits) (subst (λ (q : ℕ). stateAt s q ≡ Number twoDigits) place two) ended (lit< tt)
+      state-by s (p + 2) lineEnd (Number Two) (subst (λ (q : ℕ). stateAt s q ≡ Number Two) place two) ended (lit< tt)
 
   -- ---- the text
 

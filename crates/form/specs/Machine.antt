@@ -24,6 +24,8 @@ use Rattle.rules.specs.Signs.{
 }
 use Rattle.rules.specs.Names.{mostNameBytes}
 use Rattle.rules.specs.Phrases.{mostBrackets}
+use Rattle.form.specs.declared.machine.Digits.{Digits}
+use Rattle.form.specs.declared.machine.Digits.the-variants.{None, Zero, Other, Two}
 use Rattle.form.specs.declared.machine.State.{State}
 use Rattle.form.specs.declared.machine.State.the-variants.{Key, Begin, Name, Closed, Number, Done, Wrong}
 
@@ -40,19 +42,6 @@ needSection = 2
 abbrev pub endSection : ℕ
 endSection = 3
 
--- what stands of the end line's number: no digit yet, the digit 0, another digit, two digits
-abbrev pub noDigit : ℕ
-noDigit = 0
-
-abbrev pub digitZero : ℕ
-digitZero = 1
-
-abbrev pub otherDigit : ℕ
-otherDigit = 2
-
-abbrev pub twoDigits : ℕ
-twoDigits = 3
-
 -- the key of a section's lines
 abbrev pub keyOf : ℕ → List ℕ
 keyOf section =
@@ -61,7 +50,7 @@ keyOf section =
 
 -- behind a key: an item or the number must come
 abbrev pub valueOf : ℕ → State
-valueOf section = cond (ltb section endSection) (Name section 0 0) (Number noDigit)
+valueOf section = cond (ltb section endSection) (Name section 0 0) (Number None)
 
 -- k bytes of a key stand, and the next one comes
 abbrev pub along : List ℕ → ℕ → ℕ → ℕ → State
@@ -112,14 +101,22 @@ nameOn section (suc n) opened b =
     cond (inName b) (cond (ltb (suc n) mostNameBytes) (Name section (suc (suc n)) opened) Wrong) (behindItem section opened b)
 
 -- a digit behind what stands of the number; two digits never start with 0
-abbrev pub onDigit : ℕ → ℕ → State
-onDigit digits b =
-    cond (eqb digits noDigit) (cond (eqb b 48) (Number digitZero) (Number otherDigit))
-    (cond (eqb digits otherDigit) (Number twoDigits) Wrong)
+abbrev pub onDigit : Digits → ℕ → State
+onDigit None b = cond (eqb b 48) (Number Zero) (Number Other)
+onDigit Zero b = Wrong
+onDigit Other b = Number Two
+onDigit Two b = Wrong
+
+-- the number's line ends
+abbrev pub numberEnding : Digits → State
+numberEnding None = Wrong
+numberEnding Zero = Done
+numberEnding Other = Done
+numberEnding Two = Done
 
 -- in the end line's number
-abbrev pub inNumber : ℕ → ℕ → State
-inNumber digits b = cond (eqb b lineEnd) (cond (eqb digits noDigit) Wrong Done) (cond (digit b) (onDigit digits b) Wrong)
+abbrev pub inNumber : Digits → ℕ → State
+inNumber digits b = cond (eqb b lineEnd) (numberEnding digits) (cond (digit b) (onDigit digits b) Wrong)
 
 -- the state behind one more byte
 abbrev pub step : State → ℕ → State

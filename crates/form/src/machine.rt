@@ -9,7 +9,7 @@ use naming::words::MOST_NAME_BYTES;
 ghost use mathlib.Core.Path.{_≡_};
 ghost use Prim.Native.Nat.{_<_};
 ghost use lib.ListN.{length};
-ghost use Rattle.form.specs.Machine.{keyOf, valueOf, along as alongKey, inKey, atLine, joining, atItem, behindItem, nameOn, inNumber};
+ghost use Rattle.form.specs.Machine.{keyOf, valueOf, along as alongKey, inKey, atLine, joining, atItem, behindItem, nameOn, inNumber, onDigit, numberEnding};
 ghost use Rattle.form.specs.Machine.{step as stepped, InsideKey};
 
 // The sections of a text, each with its key.
@@ -21,21 +21,20 @@ const NEED: usize = 2;
 
 const END: usize = 3;
 
-// What stands of the end line's number.
-const NO_DIGIT: usize = 0;
-
-const DIGIT_ZERO: usize = 1;
-
-const OTHER_DIGIT: usize = 2;
-
-const TWO_DIGITS: usize = 3;
+// What stands of the end line's number: no digit yet, the digit 0, another one, two digits.
+pub enum Digits {
+    None,
+    Zero,
+    Other,
+    Two,
+}
 
 pub enum State {
     Key(usize, usize), // section, bytes of its key that stand
     Begin(usize), // a line begins, behind one of this section
     Name(usize, usize, usize), // section, bytes of a name that stand, open brackets. With 0 bytes a name or a bracket must come
     Closed(usize), // a closing bracket stands; brackets still open
-    Number(usize), // what stands of the end line's number
+    Number(Digits), // what stands of the end line's number
     Done, // the last line has ended
     Wrong, // no byte that follows can help
 }
@@ -48,7 +47,7 @@ pub fn step(state: State, byte: u8) -> State
     match state {
         State::Key(section, k) => in_key(section, k, byte),
         State::Begin(section) => at_line(section, byte),
-        State::Name(section, length, opened) => name_on(section, length, opened, byte),
+        State::Name(section, count, opened) => name_on(section, count, opened, byte),
         State::Closed(opened) => behind_item(NEED, opened, byte),
         State::Number(digits) => in_number(digits, byte),
         State::Done => State::Wrong,
@@ -94,7 +93,7 @@ fn value(section: usize) -> State
     if section < END {
         State::Name(section, 0, 0)
     } else {
-        State::Number(NO_DIGIT)
+        State::Number(Digits::None)
     }
 }
 
@@ -119,17 +118,17 @@ fn at_line(section: usize, byte: u8) -> State
 }
 
 // So many bytes of a name stand. With none a name or a bracket must come, else another byte of the name may come or its end.
-fn name_on(section: usize, length: usize, opened: usize, byte: u8) -> State
-    ensures { λ r. ⌜ r ≡ nameOn section length opened byte ⌝ }
+fn name_on(section: usize, count: usize, opened: usize, byte: u8) -> State
+    ensures { λ r. ⌜ r ≡ nameOn section count opened byte ⌝ }
 {
-    if length == 0 {
+    if count == 0 {
         return at_item(section, opened, byte);
     }
     if !in_name(byte) {
         return behind_item(section, opened, byte);
     }
-    if length < MOST_NAME_BYTES {
-        return State::Name(section, length + 1, opened);
+    if count < MOST_NAME_BYTES {
+        return State::Name(section, count + 1, opened);
     }
     State::Wrong
 }
@@ -178,30 +177,46 @@ fn behind_item(section: usize, opened: usize, byte: u8) -> State
 }
 
 // The end line's number: one or two digits, and two never start with 0.
-fn in_number(digits: usize, byte: u8) -> State
+fn in_number(digits: Digits, byte: u8) -> State
     ensures { λ r. ⌜ r ≡ inNumber digits byte ⌝ }
 {
     if byte == LINE_END {
-        return if digits == NO_DIGIT {
-            State::Wrong
-        } else {
-            State::Done
-        };
+        return number_ending(digits);
     }
     if !digit(byte) {
         return State::Wrong;
     }
-    if digits == NO_DIGIT {
-        return if byte == b'0' {
-            State::Number(DIGIT_ZERO)
-        } else {
-            State::Number(OTHER_DIGIT)
-        };
+    on_digit(digits, byte)
+}
+
+// Another digit of the number.
+fn on_digit(digits: Digits, byte: u8) -> State
+    ensures { λ r. ⌜ r ≡ onDigit digits byte ⌝ }
+{
+    match digits {
+        Digits::None => {
+            if byte == b'0' {
+                State::Number(Digits::Zero)
+            } else {
+                State::Number(Digits::Other)
+            }
+        }
+        Digits::Zero => State::Wrong,
+        Digits::Other => State::Number(Digits::Two),
+        Digits::Two => State::Wrong,
     }
-    if digits == OTHER_DIGIT {
-        return State::Number(TWO_DIGITS);
+}
+
+// The number's line ends, behind at least one digit.
+fn number_ending(digits: Digits) -> State
+    ensures { λ r. ⌜ r ≡ numberEnding digits ⌝ }
+{
+    match digits {
+        Digits::None => State::Wrong,
+        Digits::Zero => State::Done,
+        Digits::Other => State::Done,
+        Digits::Two => State::Done,
     }
-    State::Wrong
 }
 
 // Whether the byte joins the names or items of a section.

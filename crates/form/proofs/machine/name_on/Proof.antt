@@ -29,12 +29,12 @@ claims = (
 
 -- what a byte behind the first bytes of a name leads to
 name-came : (n : lts.After-in-name claims reads.Pre reads.Post) → let a = n .before .before .args in
-    nameOn (a .section) (a .length) (a .opened) (a .byte)
-    ≡ cond (n .in-name .result) (cond (ltb (a .length) mostNameBytes) (Name (a .section) (a .length + 1) (a .opened)) Wrong)
+    nameOn (a .section) (a .count) (a .opened) (a .byte)
+    ≡ cond (n .in-name .result) (cond (ltb (a .count) mostNameBytes) (Name (a .section) (a .count + 1) (a .opened)) Wrong)
     (behindItem (a .section) (a .opened) (a .byte))
 name-came n =
     let a = n .before .before .args in
-    rw (name-on-some (a .section) (a .length) (a .opened) (a .byte) (n .before .if1 .left), n .in-name .ensures)
+    rw (name-on-some (a .section) (a .count) (a .opened) (a .byte) (n .before .if1 .left), n .in-name .ensures)
 
 at-item-requires : tie.Need-at-item-requires
 at-item-requires c κs = search needs
@@ -42,7 +42,7 @@ at-item-requires c κs = search needs
 returns : tie.Need-returns
 returns c =
     let a = c .before .before .args in
-    c .at-item .ensures ∙ sym (name-on-none (a .section) (a .length) (a .opened) (a .byte) (c .before .if1 .taken))
+    c .at-item .ensures ∙ sym (name-on-none (a .section) (a .count) (a .opened) (a .byte) (c .before .if1 .taken))
 
 in-name-requires : tie.Need-in-name-requires
 in-name-requires c κs = search needs
@@ -59,12 +59,12 @@ add-t7 c = search needs
 returns-3 : tie.Need-returns-3
 returns-3 c =
     let n = c .before .before in
-    rw (name-came n, not-false (n .in-name .result) (c .before .if2 .left), lt-ltb (n .before .before .args .length) mostNameBytes (c .if3 .taken))
+    rw (name-came n, not-false (n .in-name .result) (c .before .if2 .left), lt-ltb (n .before .before .args .count) mostNameBytes (c .if3 .taken))
 
 returns-4 : tie.Need-returns-4
 returns-4 c =
     let n = c .before .before in
-    rw (name-came n, not-false (n .in-name .result) (c .before .if2 .left), le-ltb (n .before .before .args .length) mostNameBytes (c .if3 .left))
+    rw (name-came n, not-false (n .in-name .result) (c .before .if2 .left), le-ltb (n .before .before .args .count) mostNameBytes (c .if3 .left))
 
 pub name-on-spec : {M : Type 1} → statement M
 name-on-spec =
