@@ -8,27 +8,25 @@ use lib.ListN.{length}
 use Rattle.rules.specs.Signs.{byteAt}
 use Rattle.rules.specs.Texts.{HasForm, StopsAt}
 use Rattle.form.specs.declared.machine.State.{State}
-use Rattle.form.specs.declared.machine.State.the-variants.{Key, Begin, Name, Closed, Number, Done, Wrong}
+use Rattle.form.specs.declared.machine.State.the-variants.{Key, Name, Closed, Number, Done, Wrong}
 use Rattle.form.specs.Machine.{step, begin}
 use Rattle.form.proofs.Places.{Followed, followed-begin, followed-on, followed-wrong, followed-whole, followed-short}
 
 -- whether a state is this one
 wrong-or-not : (state : State) → (state ≡ Wrong) ⊎ (state ≡ Wrong → ⊥)
 wrong-or-not Wrong = inl refl
-wrong-or-not (Key section k) = inr (λ e. let z : _≡_ {A = ℕ} 0 1 = cc in omega arith)
-wrong-or-not (Begin section) = inr (λ e. let z : _≡_ {A = ℕ} 0 1 = cc in omega arith)
+wrong-or-not (Key behind section k) = inr (λ e. let z : _≡_ {A = ℕ} 0 1 = cc in omega arith)
 wrong-or-not (Name section k opened) = inr (λ e. let z : _≡_ {A = ℕ} 0 1 = cc in omega arith)
 wrong-or-not (Closed opened) = inr (λ e. let z : _≡_ {A = ℕ} 0 1 = cc in omega arith)
-wrong-or-not (Number k) = inr (λ e. let z : _≡_ {A = ℕ} 0 1 = cc in omega arith)
+wrong-or-not (Number digits) = inr (λ e. let z : _≡_ {A = ℕ} 0 1 = cc in omega arith)
 wrong-or-not Done = inr (λ e. let z : _≡_ {A = ℕ} 0 1 = cc in omega arith)
 
 done-or-not : (state : State) → (state ≡ Done) ⊎ (state ≡ Done → ⊥)
 done-or-not Done = inl refl
-done-or-not (Key section k) = inr (λ e. let z : _≡_ {A = ℕ} 0 1 = cc in omega arith)
-done-or-not (Begin section) = inr (λ e. let z : _≡_ {A = ℕ} 0 1 = cc in omega arith)
+done-or-not (Key behind section k) = inr (λ e. let z : _≡_ {A = ℕ} 0 1 = cc in omega arith)
 done-or-not (Name section k opened) = inr (λ e. let z : _≡_ {A = ℕ} 0 1 = cc in omega arith)
 done-or-not (Closed opened) = inr (λ e. let z : _≡_ {A = ℕ} 0 1 = cc in omega arith)
-done-or-not (Number k) = inr (λ e. let z : _≡_ {A = ℕ} 0 1 = cc in omega arith)
+done-or-not (Number digits) = inr (λ e. let z : _≡_ {A = ℕ} 0 1 = cc in omega arith)
 done-or-not Wrong = inr (λ e. let z : _≡_ {A = ℕ} 0 1 = cc in omega arith)
 
 module _ (s : List ℕ) where

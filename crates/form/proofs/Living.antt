@@ -8,9 +8,11 @@ use native.Mathlib.Nat.{lt-of-not-le}
 use native.Mathlib.Omega.{arith}
 use lib.ListN.{length}
 use Rattle.rules.specs.Signs.{byteAt}
+use Rattle.naming.specs.declared.sections.Section.{Section}
+use Rattle.form.specs.declared.order.Behind.{Behind}
 use Rattle.form.specs.declared.machine.Digits.{Digits}
 use Rattle.form.specs.declared.machine.State.{State}
-use Rattle.form.specs.declared.machine.State.the-variants.{Key, Begin, Name, Closed, Number, Done, Wrong}
+use Rattle.form.specs.declared.machine.State.the-variants.{Key, Name, Closed, Number, Done, Wrong}
 use Rattle.form.specs.Machine.{step, begin, run, stateAt}
 use Rattle.form.proofs.Runs.{wrong-done, state-next, state-all, stays-wrong}
 
@@ -24,13 +26,10 @@ decided true = inl refl
 decided false = inr refl
 
 -- the last state is none of the others
-pub not-key : {section k : ℕ} → Key section k ≡ Done → ⊥
+pub not-key : {behind : Behind} {section : Section} {k : ℕ} → Key behind section k ≡ Done → ⊥
 not-key e = let z : _≡_ {A = ℕ} 0 1 = cc in omega arith
 
-pub not-line : {section : ℕ} → Begin section ≡ Done → ⊥
-not-line e = let z : _≡_ {A = ℕ} 0 1 = cc in omega arith
-
-pub not-name : {section n opened : ℕ} → Name section n opened ≡ Done → ⊥
+pub not-name : {section : Section} {n opened : ℕ} → Name section n opened ≡ Done → ⊥
 not-name e = let z : _≡_ {A = ℕ} 0 1 = cc in omega arith
 
 pub not-closed : {opened : ℕ} → Closed opened ≡ Done → ⊥

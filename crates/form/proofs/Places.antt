@@ -9,9 +9,9 @@ use Rattle.rules.specs.Signs.{byteAt}
 use Rattle.rules.specs.Texts.{HasForm, CanGoOn, StopsAt}
 use Rattle.form.specs.declared.machine.State.{State}
 use Rattle.form.specs.declared.machine.State.the-variants.{Done, Wrong}
-use Rattle.form.specs.Machine.{step, InsideKey, begin, run, stateAt}
+use Rattle.form.specs.Machine.{step, Possible, begin, run, stateAt}
 use Rattle.form.proofs.Runs.{wrong-done, run-append, run-wrong, state-next, state-all, stays-wrong}
-use Rattle.form.proofs.InsideKeys.{inside-at}
+use Rattle.form.proofs.Possible.{possible-at}
 use Rattle.form.proofs.Completions.{can-end}
 use Rattle.form.proofs.Walks.{form-done}
 use Rattle.form.proofs.ReadTexts.{done-form}
@@ -23,7 +23,7 @@ module _ (s : List ℕ) where
   -- where the state is not wrong, bytes can follow so that the text is of the form
   can-go-on : (p : ℕ) → (stateAt s p ≡ Wrong → ⊥) → CanGoOn (take p s)
   can-go-on p h =
-      let completion = can-end (stateAt s p) (inside-at s p) h in
+      let completion = can-end (stateAt s p) (possible-at s p) h in
       (completion .0, done-form (record { done = run-append begin (take p s) (completion .0) ∙ completion .1 }))
 
   -- where it is wrong, none can
@@ -49,9 +49,9 @@ module _ (s : List ℕ) where
   unfolding run
   followed-begin = record { upTo = omega arith; at = refl; right = begin-right }
 
-  -- the state can be taken on
-  pub followed-inside : {state : State} {i : ℕ} → Followed state i → InsideKey state
-  followed-inside {i} f = subst InsideKey (sym (f .at)) (inside-at s i)
+  -- the state is possible
+  pub followed-possible : {state : State} {i : ℕ} → Followed state i → Possible state
+  followed-possible {i} f = subst Possible (sym (f .at)) (possible-at s i)
 
   followed-next : {state : State} {i : ℕ} (after : State) → Followed state i → i < length s → after ≡ step state (byteAt s i)
       → after ≡ stateAt s (i + 1)

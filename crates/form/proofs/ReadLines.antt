@@ -1,111 +1,84 @@
--- Keys, lines and the number, read off the states of a text that leads to the end. Assumes nothing.
-use mathlib.Core.Path.{_≡_, refl, sym, ap, subst, _∙_}
+-- Lines and the number, read off the states of a text that leads to the end. Assumes nothing.
+use mathlib.Core.Path.{_≡_, sym, ap, subst, _∙_}
 use mathlib.Core.Logic.{_⊎_, inl, inr, ⊎-elim}
 use mathlib.Core.Bool.{true, cond}
 use mathlib.Core.List.{List, [], _∷_}
-use Prim.Native.Nat.{ℕ, zero, suc, _+_, _-_, _<_}
-use native.Mathlib.Numerals.{add-one}
+use Prim.Native.Nat.{ℕ, zero, suc, _+_, _<_, _≤_}
 use native.Mathlib.Omega.{arith}
-use lib.Dec.{ltb, eqb}
-use lib.ListN.{length, getD, drop, drop-of-length-le}
-use lib.Seq.{drop-cons}
-use borrow.Author.Tests.{lt-ltb, le-ltb, eqb-true, eqb-false}
-use Rattle.rules.specs.Signs.{byteAt, Says, says-all, says-byte, digit, lineEnd}
+use lib.Dec.{eqb}
+use lib.ListN.{length}
+use borrow.Author.Tests.{eqb-true, eqb-false}
+use Rattle.rules.specs.Signs.{byteAt, Says, digit, lineEnd}
 use Rattle.rules.specs.Texts.{Line, line, Lines, no-line, one-line, Number as NumberAt, one-digit, two-digits}
+use Rattle.naming.specs.Sections.{keyOf, widthOf}
+use Rattle.naming.specs.declared.sections.Section.{Section}
+use Rattle.naming.proofs.KeyPlaces.{key-inside}
+use Rattle.form.specs.declared.order.Behind.the-variants.{Line as Behind}
 use Rattle.form.specs.declared.machine.Digits.{Digits}
 use Rattle.form.specs.declared.machine.Digits.the-variants.{None, Zero, Other, Two}
-use Rattle.form.specs.declared.machine.State.the-variants.{Key, Begin, Name, Number, Done, Wrong}
-use Rattle.form.specs.Machine.{onDigit, numberEnding, keyOf, valueOf, step, stateAt}
-use Rattle.form.proofs.Keys.{key-said}
-use Rattle.form.proofs.Runs.{cond-holds, cond-fails}
-use Rattle.form.proofs.Living.{LeadsToEnd, decided, not-key, not-line, not-number, alive, within, goes, must, forks}
+use Rattle.form.specs.declared.machine.State.the-variants.{Name, Number, Done}
+use Rattle.form.specs.Machine.{onDigit, numberEnding, valueOf, newLine, stateAt}
+use Rattle.form.proofs.Table.{order, same-order, in-order}
+use Rattle.form.proofs.KeyLaws.{one-key}
+use Rattle.form.proofs.Living.{LeadsToEnd, decided, not-number, alive, goes, must, forks}
+use Rattle.form.proofs.ReadKeys.{read-key}
 use Rattle.form.proofs.ReadNames.{ValueFrom}
 
 -- a number from place p on, and the end of its line
 abbrev pub NumberFrom : List ℕ → ℕ → Type 0
 NumberFrom s p = (q : ℕ) × (v : ℕ) × NumberAt s p q v × (byteAt s q ≡ lineEnd) × (stateAt s (q + 1) ≡ Done)
 
--- lines of a section from place p on, the section of the last line before their end, and that no such line follows
-abbrev pub LinesFrom : {A : Type 0} → List ℕ → ℕ → (ℕ → ℕ → A → Type 0) → ℕ → ℕ → Type 0
-LinesFrom {A} s section Value before p =
-    (q : ℕ) × (lines : List (Line A)) × Lines s (keyOf section) Value p q lines × (after : ℕ) × (stateAt s q ≡ Begin after)
-    × (byteAt s q ≡ getD (keyOf section) 0 0 → ⊥) × (((q ≡ p) × (after ≡ before)) ⊎ (after ≡ section))
+-- a line begins at place p, of the section at place n of the order or of a later one, and its key leads to its value
+pub record LineFrom (s : List ℕ) (n p : ℕ) : Type 0 where
+  pub section : Section
+  pub late : n ≤ order section
+  pub said : Says s p (keyOf section)
+  pub value : stateAt s (p + widthOf section) ≡ valueOf section
+
+-- lines of a section from place p on, and behind them a line of a later one
+abbrev pub LinesFrom : {A : Type 0} → List ℕ → Section → (ℕ → ℕ → A → Type 0) → ℕ → Type 0
+LinesFrom {A} s section Value p =
+    (q : ℕ) × (lines : List (Line A)) × Lines s (keyOf section) Value p q lines × LineFrom s (suc (order section)) q
 
 module _ {s : List ℕ} (led : LeadsToEnd s) where
-  -- ---- keys
-
-  -- the rest of a key can be read, and leads to the value
-  pub read-key : (left section k p : ℕ) → suc k + left ≡ length (keyOf section) → stateAt s p ≡ Key section k
-      → Says s p (drop k (keyOf section)) × (stateAt s (p + suc left) ≡ valueOf section)
-  read-key zero section k p h e =
-      let key = keyOf section in
-      let here = must led (p + 1) (eqb (byteAt s p) (getD key k 0)) _ (goes led p (Key section k) not-key e) in
-      let over : drop (suc k) key ≡ [] = drop-of-length-le key {i = suc k} (omega arith) in (
-        rw (drop-cons key k 0 (omega arith), over) (says-byte (eqb-true (byteAt s p) (getD key k 0) (here .0)) says-all),
-        here .1 ∙ cond-fails (ltb (suc k) (length key)) _ _ (le-ltb (suc k) (length key) (omega arith)),
-      )
-  read-key (suc left) section k p h e =
-      let key = keyOf section in
-      let here = must led (p + 1) (eqb (byteAt s p) (getD key k 0)) _ (goes led p (Key section k) not-key e) in
-      let on : stateAt s (p + 1) ≡ Key section (suc k) =
-      here .1 ∙ cond-holds (ltb (suc k) (length key)) _ _ (lt-ltb (suc k) (length key) (omega arith)) in
-      let more = read-key left section (suc k) (suc p) (omega arith) (subst (λ (q : ℕ). stateAt s q ≡ Key section (suc k)) (add-one p) on) in
-      let place : suc p + suc left ≡ p + suc (suc left) = omega arith in (
-        rw (drop-cons key k 0 (omega arith)) (says-byte (eqb-true (byteAt s p) (getD key k 0) (here .0)) (more .0)),
-        subst (λ (q : ℕ). stateAt s q ≡ valueOf section) place (more .1),
-      )
-
   -- ---- lines
 
-  -- a line's key can be read, and leads to the value
-  pub read-line : (section before p : ℕ) → 1 < length (keyOf section) → step (Begin before) (getD (keyOf section) 0 0) ≡ Key section 1
-      → byteAt s p ≡ getD (keyOf section) 0 0 → stateAt s p ≡ Begin before
-      → Says s p (keyOf section) × (stateAt s (p + length (keyOf section)) ≡ valueOf section)
-  read-line section before p h starts signed e =
-      let key = keyOf section in
-      let on : stateAt s (p + 1) ≡ Key section 1 = goes led p (Begin before) not-line e ∙ ap (step (Begin before)) signed ∙ starts in
-      let left = length key - 2 in
-      let more = read-key left section 1 (suc p) (omega arith) (subst (λ (q : ℕ). stateAt s q ≡ Key section 1) (add-one p) on) in
-      let place : suc p + suc left ≡ p + length key = omega arith in (
-        subst (λ (bytes : List ℕ). Says s p bytes) (sym (drop-cons key 0 0 (omega arith))) (says-byte signed (more .0)),
-        subst (λ (q : ℕ). stateAt s q ≡ valueOf section) place (more .1),
-      )
+  -- behind a line of a section begins one of it or of a later one
+  next-line : (before : Section) (p : ℕ) → stateAt s p ≡ newLine before → LineFrom s (order before) p
+  next-line before p e =
+      let key = read-key led (Behind before) p _ e in
+      record { section = key .section; late = in-order before (key .section) (key .may); said = key .said; value = key .value }
 
-  -- lines of a section that may stand behind a line of each section that fits
-  module _ {A : Type 0} (section : ℕ) (Value : ℕ → ℕ → A → Type 0) (Fits : ℕ → Type 0) (long : 1 < length (keyOf section))
-      (valued : valueOf section ≡ Name section 0 0)
-      (starts : (before : ℕ) → Fits before → step (Begin before) (getD (keyOf section) 0 0) ≡ Key section 1)
-      (again : Fits section)
+  module _ {A : Type 0} (section : Section) (Value : ℕ → ℕ → A → Type 0) (valued : valueOf section ≡ Name section 0 0)
       (read-value : (p : ℕ) → stateAt s p ≡ Name section 0 0 → ValueFrom s section Value p) where
-    another-line : (before p : ℕ) → Says s p (keyOf section) → (value : ValueFrom s section Value (p + length (keyOf section)))
-        → LinesFrom s section Value section (value .0 + 1) → LinesFrom s section Value before p
-    another-line before p said value more = (
-      more .0,
-      line p (value .1) ∷ more .1,
-      one-line said (value .3) (value .4) (more .2),
-      more .3,
-      more .4,
-      more .5,
-      inr (⊎-elim (λ same. same .1) (λ other. other) (more .6)),
-    )
+    lines-last : (p : ℕ) (here : LineFrom s (order section) p) → (order section ≡ order (here .section) → ⊥) → LinesFrom s section Value p
+    lines-last p here other =
+        let late = here .late in (
+          p,
+          [],
+          no-line (λ said. other (ap order (one-key section (here .section) said (here .said)))),
+          record { section = here .section; late = omega arith; said = here .said; value = here .value },
+        )
 
-    lines-last : (before p : ℕ) → (byteAt s p ≡ getD (keyOf section) 0 0 → ⊥) → stateAt s p ≡ Begin before → LinesFrom s section Value before p
-    lines-last before p other e = (p, [], no-line (λ said. other (key-said s section p (omega arith) said)), before, e, other, inl (refl, refl))
+    another-line : (p : ℕ) → Says s p (keyOf section) → (value : ValueFrom s section Value (p + widthOf section))
+        → LinesFrom s section Value (value .0 + 1) → LinesFrom s section Value p
+    another-line p said value more = (more .0, line p (value .1) ∷ more .1, one-line said (value .3) (value .4) (more .2), more .3)
 
-    -- lines can be read wherever a line begins and fewer than `left` bytes are left
-    pub read-lines : (left before p : ℕ) → length s < p + left → Fits before → stateAt s p ≡ Begin before → LinesFrom s section Value before p
-    read-lines zero before p h fits e = let inText = within led p (Begin before) not-line e in absurd (omega arith)
-    read-lines (suc left) before p h fits e =
-        let key = keyOf section in
-        let b = byteAt s p in
+    -- lines can be read wherever a line begins that is of no earlier section, and fewer than `left` bytes are left
+    pub read-lines : (left p : ℕ) → length s < p + left → LineFrom s (order section) p → LinesFrom s section Value p
+    read-lines zero p h here = let inText = key-inside (here .section) (here .said) in absurd (omega arith)
+    read-lines (suc left) p h here =
+        let other = here .section in
         ⊎-elim
         (λ on.
-        let said = read-line section before p long (starts before fits) (eqb-true b (getD key 0 0) on) e in
-        let value = read-value (p + length key) (said .1 ∙ valued) in
+        let same : other ≡ section = sym (same-order (eqb-true (order section) (order other) on)) in
+        let at : stateAt s (p + widthOf section) ≡ valueOf section = subst (λ (x : Section). stateAt s (p + widthOf x) ≡ valueOf x) same (here .value) in
+        let value = read-value (p + widthOf section) (at ∙ valued) in
         let forward = value .2 in
-        another-line before p (said .0) value (read-lines left section (value .0 + 1) (omega arith) again (value .5)))
-        (λ over. lines-last before p (eqb-false b (getD key 0 0) over) e)
-        (decided (eqb b (getD key 0 0)))
+        another-line p (subst (λ (x : Section). Says s p (keyOf x)) same (here .said)) value
+        (read-lines left (value .0 + 1) (omega arith) (next-line section (value .0 + 1) (value .5))))
+        (λ over. lines-last p here (eqb-false (order section) (order other) over))
+        (decided (eqb (order section) (order other)))
 
   -- ---- the number
 

@@ -12,23 +12,24 @@ use Rattle.rules.specs.Signs.{byteAt, letter, inName, lineEnd, bracketOpen, bra
 use Rattle.rules.specs.Names.{Name as NameAt, Names, spot, last-name, more-names, mostNameBytes}
 use Rattle.rules.proofs.Signs.{letter-named}
 use Rattle.naming.proofs.Runs.{from-more}
+use Rattle.naming.specs.declared.sections.Section.{Section}
 use Rattle.form.specs.declared.machine.State.{State}
-use Rattle.form.specs.declared.machine.State.the-variants.{Begin, Name, Done, Wrong}
-use Rattle.form.specs.Machine.{needSection, joining, behindItem, step, stateAt}
+use Rattle.form.specs.declared.machine.State.the-variants.{Name, Done, Wrong}
+use Rattle.form.specs.Machine.{newLine, hasBrackets, joining, behindItem, step, stateAt}
 use Rattle.form.proofs.Runs.{cond-fails}
 use Rattle.form.proofs.Living.{LeadsToEnd, not-name, alive, within, goes, must, forks}
 
 -- an item of a section stands before place q, so many brackets are open there, and a byte follows
-abbrev pub ItemEnds : List ℕ → ℕ → ℕ → ℕ → Type 0
+abbrev pub ItemEnds : List ℕ → Section → ℕ → ℕ → Type 0
 ItemEnds s section opened q = (q < length s) × (stateAt s (q + 1) ≡ behindItem section opened (byteAt s q))
 
 -- a name from place p on
-abbrev pub NameFrom : List ℕ → ℕ → ℕ → ℕ → Type 0
+abbrev pub NameFrom : List ℕ → Section → ℕ → ℕ → Type 0
 NameFrom s section opened p = (q : ℕ) × (p < q) × NameAt s p q × (ItemEnds s section opened q)
 
 -- a value of a section from place p on, and the end of its line
-abbrev pub ValueFrom : {A : Type 0} → List ℕ → ℕ → (ℕ → ℕ → A → Type 0) → ℕ → Type 0
-ValueFrom {A} s section Value p = (q : ℕ) × (a : A) × (p < q) × Value p q a × (byteAt s q ≡ lineEnd) × (stateAt s (q + 1) ≡ Begin section)
+abbrev pub ValueFrom : {A : Type 0} → List ℕ → Section → (ℕ → ℕ → A → Type 0) → ℕ → Type 0
+ValueFrom {A} s section Value p = (q : ℕ) × (a : A) × (p < q) × Value p q a × (byteAt s q ≡ lineEnd) × (stateAt s (q + 1) ≡ newLine section)
 
 -- bytes of a name from place p to before place i
 abbrev NamedTo : List ℕ → ℕ → ℕ → Type 0
@@ -36,14 +37,14 @@ NamedTo s p i = (j : ℕ) → p ≤ j → j < i → inName (byteAt s j) ≡ true
 
 module _ {s : List ℕ} (led : LeadsToEnd s) where
   -- a state that takes the next byte as behind an item
-  pub item-ends : (section opened q : ℕ) (state : State) → (state ≡ Done → ⊥) → stateAt s q ≡ state
+  pub item-ends : (section : Section) (opened q : ℕ) (state : State) → (state ≡ Done → ⊥) → stateAt s q ≡ state
       → step state (byteAt s q) ≡ behindItem section opened (byteAt s q) → ItemEnds s section opened q
   item-ends section opened q state h e f = (within led q state h e, goes led q state h e ∙ f)
 
   -- ---- one name
 
   -- another byte of the name comes, or the name has ended
-  name-step : (section opened n i : ℕ) → stateAt s i ≡ Name section (suc n) opened
+  name-step : (section : Section) (opened n i : ℕ) → stateAt s i ≡ Name section (suc n) opened
       → ((inName (byteAt s i) ≡ true) × (suc n < mostNameBytes) × (stateAt s (i + 1) ≡ Name section (suc (suc n)) opened))
       ⊎ ((inName (byteAt s i) ≡ false) × (ItemEnds s section opened i))
   name-step section opened n i e =
@@ -55,7 +56,7 @@ module _ {s : List ℕ} (led : LeadsToEnd s) where
   named-one : (p : ℕ) → letter (byteAt s p) ≡ true → NamedTo s p (p + 1)
   named-one p l = from-more (λ (j : ℕ). inName (byteAt s j) ≡ true) (λ j h g. absurd (omega arith)) (letter-named (byteAt s p) l)
 
-  name-ends : (section opened p n : ℕ) → suc n ≤ mostNameBytes → letter (byteAt s p) ≡ true → NamedTo s p (p + suc n)
+  name-ends : (section : Section) (opened p n : ℕ) → suc n ≤ mostNameBytes → letter (byteAt s p) ≡ true → NamedTo s p (p + suc n)
       → inName (byteAt s (p + suc n)) ≡ false → ItemEnds s section opened (p + suc n) → NameFrom s section opened p
   name-ends section opened p n g l so ends past = (
     p + suc n,
@@ -64,7 +65,7 @@ module _ {s : List ℕ} (led : LeadsToEnd s) where
     past,
   )
 
-  rest-of-name : (left section opened p n : ℕ) → mostNameBytes ≤ n + left → suc n ≤ mostNameBytes → letter (byteAt s p) ≡ true
+  rest-of-name : (left : ℕ) (section : Section) (opened p n : ℕ) → mostNameBytes ≤ n + left → suc n ≤ mostNameBytes → letter (byteAt s p) ≡ true
       → NamedTo s p (p + suc n) → stateAt s (p + suc n) ≡ Name section (suc n) opened → NameFrom s section opened p
   rest-of-name zero section opened p n h g l so e = absurd (omega arith)
   rest-of-name (suc left) section opened p n h g l so e =
@@ -80,14 +81,14 @@ module _ {s : List ℕ} (led : LeadsToEnd s) where
       (name-step section opened n i e)
 
   -- a name can be read behind its first letter
-  pub read-name : (section opened p : ℕ) → letter (byteAt s p) ≡ true → stateAt s (p + 1) ≡ Name section 1 opened → NameFrom s section opened p
+  pub read-name : (section : Section) (opened p : ℕ) → letter (byteAt s p) ≡ true → stateAt s (p + 1) ≡ Name section 1 opened → NameFrom s section opened p
   read-name section opened p l e = rest-of-name mostNameBytes section opened p 0 (lit≤ tt) (lit≤ tt) l (named-one p l) e
 
   -- ---- lists of names
 
   -- a line ends behind an item that no sign follows, where no bracket is open
-  pub line-ends : (section q : ℕ) → ItemEnds s section 0 q → joining section (byteAt s q) ≡ false
-      → (byteAt s q ≡ lineEnd) × (stateAt s (q + 1) ≡ Begin section)
+  pub line-ends : (section : Section) (q : ℕ) → ItemEnds s section 0 q → joining section (byteAt s q) ≡ false
+      → (byteAt s q ≡ lineEnd) × (stateAt s (q + 1) ≡ newLine section)
   line-ends section q past j =
       let b = byteAt s q in
       ⊎-elim
@@ -96,9 +97,9 @@ module _ {s : List ℕ} (led : LeadsToEnd s) where
       (forks led (q + 1) (eqb b bracketClose) _ _ (past .1 ∙ cond-fails (joining section b) _ _ j))
 
   -- names joined by the sign of a section without brackets
-  module _ (section sign : ℕ) (flat : eqb section needSection ≡ false) (joins : (b : ℕ) → joining section b ≡ eqb b sign) where
-    no-bracket : (p : ℕ) (x : State) → stateAt s (p + 1) ≡ cond (eqb (byteAt s p) bracketOpen) (cond (eqb section needSection) x Wrong) Wrong → ⊥
-    no-bracket p x e = alive led (p + 1) (must led (p + 1) (eqb (byteAt s p) bracketOpen) _ e .1 ∙ cond-fails (eqb section needSection) _ _ flat)
+  module _ (section : Section) (sign : ℕ) (flat : hasBrackets section ≡ false) (joins : (b : ℕ) → joining section b ≡ eqb b sign) where
+    no-bracket : (p : ℕ) (x : State) → stateAt s (p + 1) ≡ cond (eqb (byteAt s p) bracketOpen) (cond (hasBrackets section) x Wrong) Wrong → ⊥
+    no-bracket p x e = alive led (p + 1) (must led (p + 1) (eqb (byteAt s p) bracketOpen) _ e .1 ∙ cond-fails (hasBrackets section) _ _ flat)
 
     first-name : (p : ℕ) → stateAt s p ≡ Name section 0 0 → NameFrom s section 0 p
     first-name p e =

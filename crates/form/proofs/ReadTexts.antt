@@ -1,69 +1,62 @@
 -- From the machine to the form: a text that leads to the end is of the form. Assumes nothing.
-use Prim.{Unit}
-use mathlib.Core.Path.{_≡_, refl, sym, ap, _∙_}
-use mathlib.Core.Logic.{⊎-elim}
+use mathlib.Core.Path.{_≡_, refl, ap, subst, _∙_}
 use mathlib.Core.List.{List}
 use Prim.Native.Nat.{ℕ, _+_, _<_}
 use native.Mathlib.Omega.{arith}
-use lib.Dec.{eqb, lit<}
 use lib.ListN.{length}
-use borrow.Author.Tests.{eqb-true, ne-eqb}
 use Rattle.rules.specs.Signs.{byteAt, Says, comma, plus, lineEnd}
 use Rattle.rules.specs.Names.{Names}
 use Rattle.rules.specs.Phrases.{list, ors, Stands, mostBrackets}
 use Rattle.rules.specs.Texts.{HasForm}
 use Rattle.rules.proofs.Signs.{inside}
+use Rattle.naming.specs.Sections.{keyOf, widthOf}
+use Rattle.naming.specs.declared.sections.Section.{Section}
+use Rattle.naming.specs.declared.sections.Section.the-variants.{Columns, Forbid, Need, End}
+use Rattle.form.specs.declared.order.Behind.the-variants.{Nothing, Line}
 use Rattle.form.specs.declared.machine.State.{State}
-use Rattle.form.specs.declared.machine.State.the-variants.{Begin, Name, Done}
-use Rattle.form.specs.Machine.{columnsSection, forbidSection, needSection, endSection, keyOf, step, run, stateAt}
-use Rattle.form.proofs.Keys.{forbid-begins}
-use Rattle.form.proofs.Runs.{cond-fails, state-next}
-use Rattle.form.proofs.Living.{LeadsToEnd, not-line, alive, goes, must}
+use Rattle.form.specs.declared.machine.State.the-variants.{Name, Done}
+use Rattle.form.specs.Machine.{valueOf, newLine, step, run, stateAt}
+use Rattle.form.proofs.Table.{order, columns-first, columns-once, end-last}
+use Rattle.form.proofs.Runs.{state-next}
+use Rattle.form.proofs.Living.{LeadsToEnd, alive}
+use Rattle.form.proofs.ReadKeys.{read-key}
 use Rattle.form.proofs.ReadNames.{ValueFrom, read-names}
 use Rattle.form.proofs.ReadPhrases.{read-need}
-use Rattle.form.proofs.ReadLines.{LinesFrom, NumberFrom, read-key, read-line, read-lines, read-number}
-use Rattle.form.proofs.Signs.{joins-columns, joins-forbid}
+use Rattle.form.proofs.ReadLines.{LineFrom, LinesFrom, NumberFrom, read-lines, read-number}
 
 module _ {s : List ℕ} (led : LeadsToEnd s) where
-  read-columns-line : (p : ℕ) → stateAt s p ≡ Name columnsSection 0 0 → ValueFrom s columnsSection (Names s comma) p
-  read-columns-line p e = read-names led columnsSection comma refl joins-columns (length s + 1) p (omega arith) e
+  -- the columns' line begins the text
+  read-columns : Says s 0 (keyOf Columns) × ValueFrom s Columns (Names s comma) (widthOf Columns)
+  unfolding run
+  read-columns =
+      let key = read-key led Nothing 0 Columns refl in
+      let same = columns-first (key .section) (key .may) in
+      let at : stateAt s (widthOf Columns) ≡ Name Columns 0 0 = subst (λ (x : Section). stateAt s (0 + widthOf x) ≡ valueOf x) same (key .value) in (
+        subst (λ (x : Section). Says s 0 (keyOf x)) same (key .said),
+        read-names led Columns comma refl (λ b. refl) (length s + 1) (widthOf Columns) (omega arith) at,
+      )
 
-  read-forbid-line : (p : ℕ) → stateAt s p ≡ Name forbidSection 0 0 → ValueFrom s forbidSection (Names s plus) p
-  read-forbid-line p e = read-names led forbidSection plus refl joins-forbid (length s + 1) p (omega arith) e
+  -- another line follows it
+  behind-columns : (p : ℕ) → stateAt s p ≡ newLine Columns → LineFrom s (order Forbid) p
+  behind-columns p e =
+      let key = read-key led (Line Columns) p _ e in
+      record { section = key .section; late = columns-once (key .section) (key .may); said = key .said; value = key .value }
 
-  read-forbids : (p : ℕ) → stateAt s p ≡ Begin columnsSection → LinesFrom s forbidSection (Names s plus) columnsSection p
-  read-forbids p e =
-      read-lines led forbidSection (Names s plus) (λ before. before < needSection) (lit< tt) refl forbid-begins (lit< tt) read-forbid-line
-      (length s + 1) columnsSection p (omega arith) (lit< tt) e
+  read-forbid : (p : ℕ) → stateAt s p ≡ Name Forbid 0 0 → ValueFrom s Forbid (Names s plus) p
+  read-forbid p e = read-names led Forbid plus refl (λ b. refl) (length s + 1) p (omega arith) e
 
-  read-needs : (before p : ℕ) → stateAt s p ≡ Begin before → LinesFrom s needSection (Stands s (list ors) mostBrackets) before p
-  read-needs before p e =
-      read-lines led needSection (Stands s (list ors) mostBrackets) (λ before. Unit {0}) (lit< tt) refl (λ before h. refl) tt (read-need led)
-      (length s + 1) before p (omega arith) tt e
+  read-forbids : (p : ℕ) → LineFrom s (order Forbid) p → LinesFrom s Forbid (Names s plus) p
+  read-forbids p here = read-lines led Forbid (Names s plus) refl read-forbid (length s + 1) p (omega arith) here
 
-  read-end-line : (after p : ℕ) → stateAt s p ≡ Begin after → (byteAt s p ≡ 102 → ⊥) → (byteAt s p ≡ 110 → ⊥)
-      → Says s p (keyOf endSection) × NumberFrom s (p + 4)
-  read-end-line after p e f n =
-      let b = byteAt s p in
-      let here = must led (p + 1) (eqb b 101) _
-      (goes led p (Begin after) not-line e ∙ cond-fails (eqb b 102) _ _ (ne-eqb b 102 f) ∙ cond-fails (eqb b 110) _ _ (ne-eqb b 110 n)) in
-      let said = read-line led endSection after p (lit< tt) refl (eqb-true b 101 (here .0)) e in
-      (said .0, read-number led (p + 4) (said .1))
+  read-needs : (p : ℕ) → LineFrom s (order Need) p → LinesFrom s Need (Stands s (list ors) mostBrackets) p
+  read-needs p here = read-lines led Need (Stands s (list ors) mostBrackets) refl (read-need led) (length s + 1) p (omega arith) here
 
-  -- none comes behind a need line
-  no-forbid : (after p : ℕ) → after ≡ needSection → stateAt s p ≡ Begin after → byteAt s p ≡ 102 → ⊥
-  no-forbid after p behind e f =
-      alive led (p + 1) (goes led p (Begin after) not-line e ∙ ap (step (Begin after)) f ∙ ap (λ (section : ℕ). step (Begin section) 102) behind)
-
-  -- no forbid line follows the needs
-  no-forbid-left : {p : ℕ} (forbids : LinesFrom s forbidSection (Names s plus) columnsSection p)
-      (needs : LinesFrom s needSection (Stands s (list ors) mostBrackets) (forbids .3) (forbids .0))
-      → byteAt s (needs .0) ≡ 102 → ⊥
-  no-forbid-left forbids needs f =
-      ⊎-elim
-      (λ same. forbids .5 (sym (ap (byteAt s) (same .0)) ∙ f))
-      (λ behind. no-forbid (needs .3) (needs .0) behind (needs .4) f)
-      (needs .6)
+  read-end : (p : ℕ) → LineFrom s (order End) p → Says s p (keyOf End) × NumberFrom s (p + widthOf End)
+  read-end p here =
+      let same = end-last (here .section) (here .late) in (
+        subst (λ (x : Section). Says s p (keyOf x)) same (here .said),
+        read-number led (p + widthOf End) (subst (λ (x : Section). stateAt s (p + widthOf x) ≡ valueOf x) same (here .value)),
+      )
 
   -- nothing follows the end
   nothing-follows : (p : ℕ) → byteAt s p ≡ lineEnd → stateAt s (p + 1) ≡ Done → length s ≡ p + 1
@@ -75,26 +68,24 @@ module _ {s : List ℕ} (led : LeadsToEnd s) where
 
   -- a text that leads to the end is of the form
   pub done-form : HasForm s
-  unfolding run
   done-form =
-      let key = read-key led 7 columnsSection 0 0 refl refl in
-      let columns = read-columns-line 8 (key .1) in
-      let forbids = read-forbids (columns .0 + 1) (columns .5) in
-      let needs = read-needs (forbids .3) (forbids .0) (forbids .4) in
-      let ended = read-end-line (needs .3) (needs .0) (needs .4) (no-forbid-left forbids needs) (needs .5) in
+      let columns = read-columns .1 in
+      let forbids = read-forbids (columns .0 + 1) (behind-columns (columns .0 + 1) (columns .5)) in
+      let needs = read-needs (forbids .0) (forbids .3) in
+      let ended = read-end (needs .0) (needs .3) in
       let number = ended .1 in (
         record {
           columns = columns .1;
           forbids = forbids .1;
           needs = needs .1;
-          ended = record { place = needs .0 + 4; value = number .1 };
+          ended = record { place = needs .0 + widthOf End; value = number .1 };
         },
         record {
           columnsTo = columns .0;
           needsFrom = forbids .0;
           endFrom = needs .0;
           numberTo = number .0;
-          columnsSaid = key .0;
+          columnsSaid = read-columns .0;
           columns = columns .3;
           columnsEnd = columns .4;
           forbids = forbids .2;

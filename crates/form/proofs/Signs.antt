@@ -1,51 +1,43 @@
--- Laws of digits and of the signs that join the items of a section. Assumes nothing.
+-- Laws of digits and of the signs behind the items of a section. Assumes nothing.
 use mathlib.Core.Path.{_≡_, refl, sym, ap, _∙_}
-use mathlib.Core.Bool.{Bool, true, false, cond, _||_, true≢false}
-use Prim.Native.Nat.{ℕ}
-use native.Mathlib.Omega.{arith}
+use mathlib.Core.Bool.{true, false, not, true≢false}
+use Prim.Native.Nat.{ℕ, suc}
 use lib.Dec.{eqb}
-use borrow.Author.Tests.{eqb-true, ne-eqb}
-use Rattle.rules.specs.Signs.{digit, comma, plus, ampersand, bar}
+use borrow.Author.Tests.{ne-eqb, not-true}
+use Rattle.rules.specs.Lists.{every}
+use Rattle.rules.specs.Signs.{digit, ampersand, bar, lineEnd, bracketClose}
 use Rattle.rules.specs.Phrases.{Join, ors, ands, signOf}
-use Rattle.form.specs.Machine.{columnsSection, forbidSection, needSection, joining}
+use Rattle.rules.proofs.Lists.{or-none}
+use Rattle.naming.specs.declared.sections.Section.{Section}
+use Rattle.naming.specs.declared.sections.Section.the-variants.{Need}
+use Rattle.form.specs.declared.machine.State.the-variants.{Closed}
+use Rattle.form.specs.Order.{sections}
+use Rattle.form.specs.Machine.{joining, behindItem, newLine}
+use Rattle.form.proofs.Table.{each}
 
 -- a digit is none of the bytes that are no digits
 pub digit-not : (b c : ℕ) → digit c ≡ false → digit b ≡ true → b ≡ c → ⊥
 digit-not b c f e z = true≢false (sym e ∙ ap digit z ∙ f)
 
--- columns are joined by commas alone
-pub joins-columns : (b : ℕ) → joining columnsSection b ≡ eqb b comma
-joins-columns b = go (eqb b comma) (eqb b plus) (eqb b ampersand || eqb b bar)
-  where
-    go : (c p n : Bool) → cond c true (cond p false (cond n false false)) ≡ c
-    go true p n = refl
-    go false true n = refl
-    go false false true = refl
-    go false false false = refl
-
--- the names of a forbid are joined by plus signs alone
-pub joins-forbid : (b : ℕ) → joining forbidSection b ≡ eqb b plus
-joins-forbid b =
-    go (eqb b comma) (eqb b plus) (eqb b ampersand || eqb b bar) (λ c. ne-eqb b plus (λ z. let e = eqb-true b comma c in omega arith))
-  where
-    go : (c p n : Bool) → (c ≡ true → p ≡ false) → cond c false (cond p true (cond n false false)) ≡ p
-    go true p n apart = sym (apart refl)
-    go false true n apart = refl
-    go false false true apart = refl
-    go false false false apart = refl
-
 -- the signs of both kinds of list join the items of a need
-pub joins-need : (j : Join) → joining needSection (signOf j) ≡ true
+pub joins-need : (j : Join) → joining Need (signOf j) ≡ true
 joins-need ors = refl
 joins-need ands = refl
 
 -- no other byte does
-pub joins-no-need : (b : ℕ) → (b ≡ ampersand → ⊥) → (b ≡ bar → ⊥) → joining needSection b ≡ false
-joins-no-need b f g = go (eqb b comma) (eqb b plus) (eqb b ampersand) (eqb b bar) (ne-eqb b ampersand f) (ne-eqb b bar g)
-  where
-    go : (c p a o : Bool) → a ≡ false → o ≡ false → cond c false (cond p false (cond (a || o) true false)) ≡ false
-    go c p true o e f = absurd (true≢false e)
-    go c p false true e f = absurd (true≢false f)
-    go true p false false e f = refl
-    go false true false false e f = refl
-    go false false false false e f = refl
+pub joins-no-need : (b : ℕ) → (b ≡ ampersand → ⊥) → (b ≡ bar → ⊥) → joining Need b ≡ false
+joins-no-need b f g = or-none (eqb b ampersand) (eqb b bar) (ne-eqb b ampersand f) (ne-eqb b bar g)
+
+-- a byte that joins the items of no section
+joins-none : (b : ℕ) → every (λ a. not (joining a b)) sections ≡ true → (section : Section) → joining section b ≡ false
+joins-none b none section = not-true (joining section b) (each (λ a. not (joining a b)) none section)
+
+-- a line of any section ends behind an item
+pub line-over : (section : Section) → behindItem section 0 lineEnd ≡ newLine section
+unfolding every
+line-over section = rw (joins-none lineEnd refl section)
+
+-- and a bracket closes there
+pub bracket-over : (section : Section) (opened : ℕ) → behindItem section (suc opened) bracketClose ≡ Closed opened
+unfolding every
+bracket-over section opened = rw (joins-none bracketClose refl section)

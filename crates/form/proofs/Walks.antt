@@ -1,30 +1,37 @@
 -- From the form to the machine: each part of a text of the form leads from the state before it to the state behind it. Assumes nothing.
-use Prim.{Unit}
 use mathlib.Core.Path.{_≡_, refl, sym, ap, subst, _∙_}
 use mathlib.Core.Bool.{Bool, true, false, cond}
 use mathlib.Core.List.{List}
+use mathlib.Core.List.List·Memᴰ.{List·Memᴰ·tail}
 use Prim.Native.Nat.{ℕ, zero, suc, _+_, _-_, _<_, _≤_}
 use native.Mathlib.Numerals.{add-one}
 use native.Mathlib.Omega.{arith}
 use lib.Dec.{ltb, eqb, lit<, lit≤}
-use lib.ListN.{length, getD, drop}
-use lib.Seq.{drop-cons}
-use borrow.Author.Tests.{lt-ltb, ne-eqb}
+use lib.ListN.{length}
+use borrow.Author.Count.{below-more}
+use borrow.Author.Tests.{lt-ltb, ne-eqb, eqb-true, eqb-false}
 use Rattle.rules.specs.Signs.{byteAt, lineEnd, comma, plus, ampersand, bar, bracketOpen, bracketClose, Says, letter, digit, inName}
 use Rattle.rules.specs.Names.{Name as NameAt, Names, Spot, last-name, more-names, mostNameBytes}
 use Rattle.rules.specs.Phrases.{Kind, item, list, rest, Join, ors, ands, operand, signOf, Formula, mostBrackets}
 use Rattle.rules.specs.Phrases.{Stands, first, last, next, name, bracketed}
 use Rattle.rules.specs.Texts.{Line, Lines, no-line, one-line, Number as NumberAt, one-digit, two-digits, HasForm}
-use Rattle.rules.proofs.Signs.{inside, named-inside, says-first}
+use Rattle.rules.proofs.Signs.{inside, named-inside}
 use Rattle.rules.proofs.Names.{name-begins, name-some}
+use Rattle.naming.specs.Sections.{keyOf, widthOf}
+use Rattle.naming.specs.declared.sections.Section.{Section}
+use Rattle.naming.specs.declared.sections.Section.the-variants.{Columns, Forbid, Need, End}
+use Rattle.naming.proofs.KeyPlaces.{width-bounds}
+use Rattle.form.specs.declared.order.Behind.{Behind}
+use Rattle.form.specs.declared.order.Behind.the-variants.{Nothing, Line as BehindLine}
 use Rattle.form.specs.declared.machine.Digits.{Digits}
 use Rattle.form.specs.declared.machine.Digits.the-variants.{None, Zero, Other, Two}
 use Rattle.form.specs.declared.machine.State.{State}
-use Rattle.form.specs.declared.machine.State.the-variants.{Key, Begin, Name, Closed, Number, Done, Wrong}
-use Rattle.form.specs.Machine.{columnsSection, forbidSection, needSection, endSection, onDigit, numberEnding}
-use Rattle.form.specs.Machine.{keyOf, valueOf, joining, behindItem, step, begin, run, stateAt}
-use Rattle.form.proofs.Signs.{digit-not}
-use Rattle.form.proofs.Keys.{forbid-begins, key-byte, along-on, along-behind}
+use Rattle.form.specs.declared.machine.State.the-variants.{Key, Name, Closed, Number, Done, Wrong}
+use Rattle.form.specs.Order.{follows}
+use Rattle.form.specs.Machine.{valueOf, newLine, onward, joining, behindItem, onDigit, numberEnding, step, begin, run, stateAt}
+use Rattle.form.proofs.Table.{order, same-order, listed, later-may}
+use Rattle.form.proofs.KeyLaws.{SameTo, key-byte, said-begun, apart, inside-both, first-found, onward-key, onward-value}
+use Rattle.form.proofs.Signs.{digit-not, line-over}
 use Rattle.form.proofs.Runs.{cond-holds, cond-fails, state-next, state-by, state-all}
 
 module _ (s : List ℕ) where
@@ -33,32 +40,58 @@ module _ (s : List ℕ) where
 
   -- ---- keys
 
-  key-walk : (left section k p : ℕ) → suc k + left ≡ length (keyOf section) → Says s p (drop k (keyOf section)) → stateAt s p ≡ Key section k
-      → stateAt s (p + suc left) ≡ valueOf section
-  key-walk zero section k p h said e =
-      let key = keyOf section in
-      let here = says-first (subst (λ (bytes : List ℕ). Says s p bytes) (drop-cons key k 0 (omega arith)) said) in
-      state-by s p (getD key k 0) (Key section k) e (here .0) (key-byte section k (omega arith)) ∙ along-behind key section k (omega arith)
-  key-walk (suc left) section k p h said e =
-      let key = keyOf section in
-      let here = says-first (subst (λ (bytes : List ℕ). Says s p bytes) (drop-cons key k 0 (omega arith)) said) in
-      let on : stateAt s (p + 1) ≡ Key section (suc k) =
-      state-by s p (getD key k 0) (Key section k) e (here .0) (key-byte section k (omega arith)) ∙ along-on key section k (omega arith) in
-      let place : suc p + suc left ≡ p + suc (suc left) = omega arith in
-      subst (λ (q : ℕ). stateAt s q ≡ valueOf section) place
-      (key-walk left section (suc k) (suc p) (omega arith) (here .1) (subst (λ (q : ℕ). stateAt s q ≡ Key section (suc k)) (add-one p) on))
+  -- a key stands that may stand there
+  module _ (behind : Behind) (section : Section) (p : ℕ) (may : follows behind section ≡ true) (said : Says s p (keyOf section)) where
+    -- k bytes of a key stand that begins alike: the next byte is one of a key that goes on alike
+    key-next : (other : Section) (k : ℕ) → k < widthOf section → SameTo other section k → stateAt s (p + k) ≡ Key behind other k
+        → (one : Section) × SameTo one section (suc k) × (stateAt s (p + suc k) ≡ onward behind one (suc k))
+    key-next other k h same e =
+        let b = byteAt (keyOf section) k in
+        let place : p + k + 1 ≡ p + suc k = omega arith in
+        let found = first-found behind other k b section (record { byte = refl; may = may; same = same }) (List·Memᴰ·tail (listed section)) in
+        let one = found .0 in
+        let on : stateAt s (p + k + 1) ≡ onward behind one (suc k) =
+        state-by s (p + k) b (Key behind other k) e (said-begun said k h) (key-byte section k h) ∙ found .2 in (
+          one,
+          rw (← add-one k) (below-more (λ (i : ℕ). byteAt (keyOf one) i ≡ byteAt (keyOf section) i) k
+              (λ i l. sym (found .1 .same i l) ∙ same i l) (found .1 .byte)),
+          subst (λ (q : ℕ). stateAt s q ≡ onward behind one (suc k)) place on,
+        )
+
+    key-rest : (left : ℕ) (other : Section) (k : ℕ) → suc k + left ≡ widthOf section → SameTo other section k → stateAt s (p + k) ≡ Key behind other k
+        → stateAt s (p + widthOf section) ≡ valueOf section
+    key-rest zero other k h same e =
+        let next = key-next other k (omega arith) same e in
+        let one = next .0 in
+        let whole : suc k ≡ widthOf section = omega arith in
+        let is : one ≡ section = sym (apart section one (λ i l. sym (next .1 i (omega arith)))) in
+        subst (λ (k : ℕ). stateAt s (p + k) ≡ valueOf section) whole
+        (next .2 ∙ ap (λ (x : Section). onward behind x (suc k)) is ∙ onward-value behind section (suc k) (omega arith))
+    key-rest (suc left) other k h same e =
+        let next = key-next other k (omega arith) same e in
+        let one = next .0 in
+        let fits = inside-both section one (suc k) (λ i l. sym (next .1 i l)) (omega arith) in
+        key-rest left one (suc k) (omega arith) (next .1) (next .2 ∙ onward-key behind one (suc k) fits)
+
+    -- it leads to its value
+    key-walk : (other : Section) → stateAt s p ≡ Key behind other 0 → stateAt s (p + widthOf section) ≡ valueOf section
+    key-walk other e =
+        let place : p ≡ p + 0 = omega arith in
+        let some = width-bounds section in
+        key-rest (widthOf section - 1) other 0 (omega arith) (λ i h. absurd (omega arith))
+        (subst (λ (q : ℕ). stateAt s q ≡ Key behind other 0) place e)
 
   -- ---- names
 
   -- an item of a section stands before place q, and so many brackets are open there
-  abbrev Behind : ℕ → ℕ → ℕ → Type 0
-  Behind section opened q = q < length s → stateAt s (q + 1) ≡ behindItem section opened (byteAt s q)
+  abbrev Passed : Section → ℕ → ℕ → Type 0
+  Passed section opened q = q < length s → stateAt s (q + 1) ≡ behindItem section opened (byteAt s q)
 
-  behind-by : (section opened q b : ℕ) → Behind section opened q → byteAt s q ≡ b → 0 < b → stateAt s (q + 1) ≡ behindItem section opened b
+  behind-by : (section : Section) (opened q b : ℕ) → Passed section opened q → byteAt s q ≡ b → 0 < b → stateAt s (q + 1) ≡ behindItem section opened b
   behind-by section opened q b h e g =
       h (inside s q (λ (z : byteAt s q ≡ 0). omega arith)) ∙ ap (behindItem section opened) e
 
-  name-goes : (section opened p q : ℕ) → NameAt s p q → stateAt s p ≡ Name section 0 opened
+  name-goes : (section : Section) (opened p q : ℕ) → NameAt s p q → stateAt s p ≡ Name section 0 opened
       → (n : ℕ) → p + suc n ≤ q → stateAt s (p + suc n) ≡ Name section (suc n) opened
   name-goes section opened p q here e zero h =
       let b = byteAt s p in
@@ -76,7 +109,7 @@ module _ (s : List ℕ) where
       let place : i + 1 ≡ p + suc (suc n) = omega arith in
       subst (λ (q : ℕ). stateAt s q ≡ Name section (suc (suc n)) opened) place on
 
-  name-walk : (section opened p q : ℕ) → NameAt s p q → stateAt s p ≡ Name section 0 opened → Behind section opened q
+  name-walk : (section : Section) (opened p q : ℕ) → NameAt s p q → stateAt s p ≡ Name section 0 opened → Passed section opened q
   name-walk section opened p q here e h =
       let some = name-some here in
       let n = q - suc p in
@@ -85,8 +118,8 @@ module _ (s : List ℕ) where
       subst (λ (i : ℕ). stateAt s i ≡ Name section (suc n) opened) place (name-goes section opened p q here e n (omega arith)) in
       state-from q (Name section (suc n) opened) h at ∙ cond-fails (inName (byteAt s q)) _ _ (here .run .ends)
 
-  names-walk : (section sign : ℕ) → joining section sign ≡ true → 0 < sign → {p q : ℕ} {spots : List Spot} → Names s sign p q spots
-      → stateAt s p ≡ Name section 0 0 → Behind section 0 q
+  names-walk : (section : Section) (sign : ℕ) → joining section sign ≡ true → 0 < sign → {p q : ℕ} {spots : List Spot} → Names s sign p q spots
+      → stateAt s p ≡ Name section 0 0 → Passed section 0 q
   names-walk section sign j g (last-name {p} {q} here no-more) e = name-walk section 0 p q here e
   names-walk section sign j g (more-names {p} {r} here signed more) e =
       names-walk section sign j g more
@@ -96,74 +129,63 @@ module _ (s : List ℕ) where
 
   -- the state before a phrase of a kind
   abbrev Enters : Kind → ℕ → ℕ → Type 0
-  Enters item opened p = stateAt s p ≡ Name needSection 0 opened
-  Enters (list j) opened p = stateAt s p ≡ Name needSection 0 opened
-  Enters (rest j v) opened p = Behind needSection opened p
+  Enters item opened p = stateAt s p ≡ Name Need 0 opened
+  Enters (list j) opened p = stateAt s p ≡ Name Need 0 opened
+  Enters (rest j v) opened p = Passed Need opened p
 
-  enters-operand : (j : Join) (opened p : ℕ) → stateAt s p ≡ Name needSection 0 opened → Enters (operand j) opened p
+  enters-operand : (j : Join) (opened p : ℕ) → stateAt s p ≡ Name Need 0 opened → Enters (operand j) opened p
   enters-operand ors opened p e = e
   enters-operand ands opened p e = e
 
-  sign-walk : (j : Join) (opened p : ℕ) → Behind needSection opened p → byteAt s p ≡ signOf j → stateAt s (p + 1) ≡ Name needSection 0 opened
-  sign-walk ors opened p h e = behind-by needSection opened p bar h e (lit< tt)
-  sign-walk ands opened p h e = behind-by needSection opened p ampersand h e (lit< tt)
+  sign-walk : (j : Join) (opened p : ℕ) → Passed Need opened p → byteAt s p ≡ signOf j → stateAt s (p + 1) ≡ Name Need 0 opened
+  sign-walk ors opened p h e = behind-by Need opened p bar h e (lit< tt)
+  sign-walk ands opened p h e = behind-by Need opened p ampersand h e (lit< tt)
 
   stands-walk : {kind : Kind} {deep p q : ℕ} {v : Formula} (opened : ℕ) → opened + deep ≤ mostBrackets → Stands s kind deep p q v
-      → Enters kind opened p → Behind needSection opened q
+      → Enters kind opened p → Passed Need opened q
   stands-walk opened h (first {j} {deep} {p} {r} {q} one more) e =
       stands-walk opened h more (stands-walk opened h one (enters-operand j opened p e))
   stands-walk opened h (last no-more) e = e
   stands-walk opened h (next {j} {deep} {p} {r} {q} signed one more) e =
       stands-walk opened h more (stands-walk opened h one (enters-operand j opened (p + 1) (sign-walk j opened p e signed)))
-  stands-walk opened h (name {deep} {p} {q} here) e = name-walk needSection opened p q here e
+  stands-walk opened h (name {deep} {p} {q} here) e = name-walk Need opened p q here e
   stands-walk opened h (bracketed {deep} {p} {q} open-said inner close-said) e =
-      let in-bracket : stateAt s (p + 1) ≡ Name needSection 0 (suc opened) =
-      state-by s p bracketOpen (Name needSection 0 opened) e open-said (lit< tt)
-      ∙ cond-holds (ltb opened mostBrackets) (Name needSection 0 (suc opened)) Wrong (lt-ltb opened mostBrackets (omega arith)) in
+      let in-bracket : stateAt s (p + 1) ≡ Name Need 0 (suc opened) =
+      state-by s p bracketOpen (Name Need 0 opened) e open-said (lit< tt)
+      ∙ cond-holds (ltb opened mostBrackets) (Name Need 0 (suc opened)) Wrong (lt-ltb opened mostBrackets (omega arith)) in
       let behind = stands-walk (suc opened) (omega arith) inner in-bracket in
-      λ g. state-from (q + 1) (Closed opened) g (behind-by needSection (suc opened) q bracketClose behind close-said (lit< tt))
+      λ g. state-from (q + 1) (Closed opened) g (behind-by Need (suc opened) q bracketClose behind close-said (lit< tt))
 
   -- ---- lines
 
-  line-walk : (section before p : ℕ) → 1 < length (keyOf section) → step (Begin before) (getD (keyOf section) 0 0) ≡ Key section 1
-      → Says s p (keyOf section) → stateAt s p ≡ Begin before → stateAt s (p + length (keyOf section)) ≡ valueOf section
-  line-walk section before p h starts said e =
-      let key = keyOf section in
-      let here = says-first (subst (λ (bytes : List ℕ). Says s p bytes) (drop-cons key 0 0 (omega arith)) said) in
-      let on : stateAt s (p + 1) ≡ Key section 1 =
-      state-by s p (getD key 0 0) (Begin before) e (here .0) (key-byte section 0 (omega arith)) ∙ starts in
-      let left = length key - 2 in
-      let place : suc p + suc left ≡ p + length key = omega arith in
-      subst (λ (q : ℕ). stateAt s q ≡ valueOf section) place
-      (key-walk left section 1 (suc p) (omega arith) (here .1) (subst (λ (q : ℕ). stateAt s q ≡ Key section 1) (add-one p) on))
+  -- a line begins at place p behind one of a section before place n of the order
+  record LineAt (n p : ℕ) : Type 0 where
+    before : Section
+    early : order before < n
+    at : stateAt s p ≡ newLine before
 
-  -- lines of a section that may stand behind a line of each section that fits
-  module _ {A : Type 0} (section : ℕ) (Value : ℕ → ℕ → A → Type 0) (Fits : ℕ → Type 0) (long : 1 < length (keyOf section))
-      (valued : valueOf section ≡ Name section 0 0)
-      (starts : (before : ℕ) → Fits before → step (Begin before) (getD (keyOf section) 0 0) ≡ Key section 1)
-      (again : Fits section)
-      (value-walk : (p q : ℕ) (a : A) → Value p q a → stateAt s p ≡ Name section 0 0 → Behind section 0 q) where
-    lines-walk : {p q : ℕ} {lines : List (Line A)} (before : ℕ) → Fits before → Lines s (keyOf section) Value p q lines → stateAt s p ≡ Begin before
-        → (after : ℕ) × Fits after × (stateAt s q ≡ Begin after)
-    lines-walk before fits (no-line none) e = (before, fits, e)
-    lines-walk before fits (one-line {p} {r} {q} {a} said value ended more) e =
-        let behind = value-walk (p + length (keyOf section)) r a value (line-walk section before p long (starts before fits) said e ∙ valued) in
-        lines-walk section again more (ended-at behind ended)
+  -- lines of a section that may follow itself
+  module _ {A : Type 0} (section : Section) (Value : ℕ → ℕ → A → Type 0) (valued : valueOf section ≡ Name section 0 0)
+      (again : follows (BehindLine section) section ≡ true)
+      (value-walk : (p q : ℕ) (a : A) → Value p q a → stateAt s p ≡ Name section 0 0 → Passed section 0 q) where
+    may-come : (before : Section) → order before < suc (order section) → follows (BehindLine before) section ≡ true
+    may-come before h = go (eqb (order before) (order section)) refl
       where
-        ended-at : {r : ℕ} → Behind section 0 r → byteAt s r ≡ lineEnd → stateAt s (r + 1) ≡ Begin section
-        ended-at {r} behind ended = behind-by section 0 r lineEnd behind ended (lit< tt)
+        go : (test : Bool) → eqb (order before) (order section) ≡ test → follows (BehindLine before) section ≡ true
+        go true e =
+            let same : section ≡ before = sym (same-order (eqb-true (order before) (order section) e)) in
+            subst (λ (x : Section). follows (BehindLine x) section ≡ true) same again
+        go false e = let other = eqb-false (order before) (order section) e in later-may before section (omega arith)
 
-  forbids-walk : {p q : ℕ} {lines : List (Line (List Spot))} → Lines s (keyOf forbidSection) (Names s plus) p q lines
-      → stateAt s p ≡ Begin columnsSection → (after : ℕ) × (after < needSection) × (stateAt s q ≡ Begin after)
-  forbids-walk lines e =
-      lines-walk forbidSection (Names s plus) (λ before. before < needSection) (lit< tt) refl forbid-begins (lit< tt)
-      (λ p q spots names e. names-walk forbidSection plus refl (lit< tt) names e) columnsSection (lit< tt) lines e
-
-  needs-walk : {p q : ℕ} {lines : List (Line Formula)} (before : ℕ) → Lines s (keyOf needSection) (Stands s (list ors) mostBrackets) p q lines
-      → stateAt s p ≡ Begin before → (after : ℕ) × Unit {0} × (stateAt s q ≡ Begin after)
-  needs-walk before lines e =
-      lines-walk needSection (Stands s (list ors) mostBrackets) (λ before. Unit {0}) (lit< tt) refl (λ before h. refl) tt
-      (λ p q v stands e. stands-walk 0 (lit≤ tt) stands e) before tt lines e
+    lines-walk : {p q : ℕ} {lines : List (Line A)} → Lines s (keyOf section) Value p q lines → LineAt (suc (order section)) p
+        → LineAt (suc (order section)) q
+    lines-walk (no-line none) here = here
+    lines-walk (one-line {p} {r} {q} {a} said value ended more) here =
+        let before = here .before in
+        let valueAt = key-walk (BehindLine before) section p (may-come before (here .early)) said End (here .at) ∙ valued in
+        let passed = value-walk (p + widthOf section) r a value valueAt in
+        lines-walk more
+        (record { before = section; early = omega arith; at = behind-by section 0 r lineEnd passed ended (lit< tt) ∙ line-over section })
 
   -- ---- the number
 
@@ -194,13 +216,19 @@ module _ (s : List ℕ) where
   pub form-done : HasForm s → run begin s ≡ Done
   unfolding run
   form-done (sheet, t) =
-      let columns : stateAt s 8 ≡ Name columnsSection 0 0 = key-walk 7 columnsSection 0 0 refl (t .columnsSaid) refl in
-      let first-line : stateAt s (t .columnsTo + 1) ≡ Begin columnsSection =
-      behind-by columnsSection 0 (t .columnsTo) lineEnd (names-walk columnsSection comma refl (lit< tt) (t .columns) columns)
-      (t .columnsEnd) (lit< tt) in
-      let forbids = forbids-walk (t .forbids) first-line in
-      let needs = needs-walk (forbids .0) (t .needs) (forbids .2) in
-      let number = line-walk endSection (needs .0) (t .endFrom) (lit< tt) refl (t .endSaid) (needs .2) in
+      let columns : stateAt s (widthOf Columns) ≡ Name Columns 0 0 = key-walk Nothing Columns 0 refl (t .columnsSaid) Columns refl in
+      let columnsEnd = names-walk Columns comma refl (lit< tt) (t .columns) columns in
+      let first-line : LineAt 2 (t .columnsTo + 1) = record {
+        before = Columns;
+        early = lit< tt;
+        at = behind-by Columns 0 (t .columnsTo) lineEnd columnsEnd (t .columnsEnd) (lit< tt);
+      } in
+      let forbids = lines-walk Forbid (Names s plus) refl refl (λ p q spots names e. names-walk Forbid plus refl (lit< tt) names e)
+      (t .forbids) first-line in
+      let needs = lines-walk Need (Stands s (list ors) mostBrackets) refl refl (λ p q v stands e. stands-walk 0 (lit≤ tt) stands e)
+      (t .needs) (record { before = forbids .before; early = omega (arith, forbids .early); at = forbids .at }) in
+      let may = later-may (needs .before) End (needs .early) in
+      let number = key-walk (BehindLine (needs .before)) End (t .endFrom) may (t .endSaid) End (needs .at) in
       let done = number-walk (t .number) number (t .numberEnd) in
       let whole = t .whole in
       sym (state-all s (t .numberTo + 1) (omega arith)) ∙ done

@@ -1,7 +1,11 @@
 // Whether a text is of the form of a job text, and else the place where it stops being so. What is read later is only read of texts of the form.
 use machine::State;
+use naming::sections::Section;
+use order::Behind;
 
+mod keys; // keys.rt: keys that begin alike
 mod machine; // machine.rt: the machine that takes a text byte by byte
+mod order; // order.rt: which sections may follow which
 
 ghost use Rattle.form.specs.Promises.{Told};
 
@@ -15,7 +19,7 @@ pub enum Formed {
 pub fn form(text: &[u8]) -> Formed
     ensures { λ r. ⌜ Told (now (text .entry)) r ⌝ }
 {
-    let mut state = State::Key(machine::COLUMNS, 0);
+    let mut state = State::Key(Behind::Nothing, Section::Columns, 0);
     let mut i = 0;
     while i < text.len() {
         state = machine::step(state, text[i]);

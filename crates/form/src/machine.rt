@@ -1,5 +1,12 @@
 // A machine that takes a text byte by byte, so that the byte at which it goes wrong is the place where the text stops being of the form. Its state is
 // what the bytes so far say about the bytes that may come.
+use crate::keys::goes_on;
+use crate::order::Behind;
+use crate::order::SECTIONS;
+use crate::order::section_at;
+use naming::sections::Section;
+use naming::sections::key_byte;
+use naming::sections::width;
 use naming::signs::LINE_END;
 use naming::signs::MOST_BRACKETS;
 use naming::signs::digit;
@@ -7,19 +14,12 @@ use naming::signs::in_name;
 use naming::signs::letter;
 use naming::words::MOST_NAME_BYTES;
 ghost use mathlib.Core.Path.{_≡_};
+ghost use mathlib.Core.Bool.{true};
 ghost use Prim.Native.Nat.{_<_};
-ghost use lib.ListN.{length};
-ghost use Rattle.form.specs.Machine.{keyOf, valueOf, along as alongKey, inKey, atLine, joining, atItem, behindItem, nameOn, inNumber, onDigit, numberEnding};
-ghost use Rattle.form.specs.Machine.{step as stepped, InsideKey};
-
-// The sections of a text, each with its key.
-pub const COLUMNS: usize = 0;
-
-const FORBID: usize = 1;
-
-const NEED: usize = 2;
-
-const END: usize = 3;
+ghost use Rattle.naming.specs.Sections.{widthOf};
+ghost use Rattle.form.specs.Order.{sections, follows};
+ghost use Rattle.form.specs.Machine.{valueOf, onward as onwardIn, firstOn, inKey, hasBrackets, joining, atItem, behindItem, nameOn};
+ghost use Rattle.form.specs.Machine.{inNumber, onDigit, numberEnding, step as stepped, Possible};
 
 // What stands of the end line's number: no digit yet, the digit 0, another one, two digits.
 pub enum Digits {
@@ -30,9 +30,9 @@ pub enum Digits {
 }
 
 pub enum State {
-    Key(usize, usize), // section, bytes of its key that stand
-    Begin(usize), // a line begins, behind one of this section
-    Name(usize, usize, usize), // section, bytes of a name that stand, open brackets. With 0 bytes a name or a bracket must come
+    // behind this, so many bytes of a key stand: of this section's, and of every other that begins alike and may stand here
+    Key(Behind, Section, usize),
+    Name(Section, usize, usize), // section, bytes of a name that stand, open brackets. With 0 bytes a name or a bracket must come
     Closed(usize), // a closing bracket stands; brackets still open
     Number(Digits), // what stands of the end line's number
     Done, // the last line has ended
@@ -41,84 +41,71 @@ pub enum State {
 
 // The state behind one more byte.
 pub fn step(state: State, byte: u8) -> State
-    requires { ⌜ InsideKey state ⌝ }
+    requires { ⌜ Possible state ⌝ }
     ensures { λ r. ⌜ r ≡ stepped state byte ⌝ }
 {
     match state {
-        State::Key(section, k) => in_key(section, k, byte),
-        State::Begin(section) => at_line(section, byte),
+        State::Key(behind, section, k) => in_key(behind, section, k, byte),
         State::Name(section, count, opened) => name_on(section, count, opened, byte),
-        State::Closed(opened) => behind_item(NEED, opened, byte),
+        State::Closed(opened) => behind_item(Section::Need, opened, byte),
         State::Number(digits) => in_number(digits, byte),
         State::Done => State::Wrong,
         State::Wrong => State::Wrong,
     }
 }
 
-// So many bytes of a section's key stand.
-fn in_key(section: usize, k: usize, byte: u8) -> State
-    requires { ⌜ k < length (keyOf section) ⌝ }
-    ensures { λ r. ⌜ r ≡ inKey section k byte ⌝ }
+// So many bytes of a section's key stand. Where it does not go on, another may that begins alike.
+fn in_key(behind: Behind, section: Section, k: usize, byte: u8) -> State
+    requires { ⌜ (follows behind section ≡ true) × (k < widthOf section) ⌝ }
+    ensures { λ r. ⌜ r ≡ inKey behind section k byte ⌝ }
 {
-    if section == COLUMNS {
-        return along(b"columns=", section, k, byte);
+    if byte == key_byte(section, k) {
+        return onward(behind, section, k + 1);
     }
-    if section == FORBID {
-        return along(b"forbid=", section, k, byte);
-    }
-    if section == NEED {
-        return along(b"need=", section, k, byte);
-    }
-    along(b"end=", section, k, byte)
+    first_on(behind, section, k, byte)
 }
 
-// The next byte must be the key's next one.
-fn along(key: &[u8], section: usize, k: usize, byte: u8) -> State
-    requires { ⌜ k < length (now key) ⌝ }
-    ensures { λ r. ⌜ r ≡ alongKey (now (key .entry)) section k byte ⌝ }
+// The first section whose key goes on with the byte.
+fn first_on(behind: Behind, section: Section, k: usize, byte: u8) -> State
+    requires { ⌜ k < widthOf section ⌝ }
+    ensures { λ r. ⌜ r ≡ firstOn behind section k byte sections ⌝ }
 {
-    if byte != key[k] {
-        return State::Wrong;
-    }
-    if k + 1 < key.len() {
-        return State::Key(section, k + 1);
-    }
-    value(section)
-}
-
-// What must come behind a key.
-fn value(section: usize) -> State
-    ensures { λ r. ⌜ r ≡ valueOf section ⌝ }
-{
-    if section < END {
-        State::Name(section, 0, 0)
-    } else {
-        State::Number(Digits::None)
-    }
-}
-
-// A line begins. The first byte of a key tells which; no forbid line comes behind a need line.
-fn at_line(section: usize, byte: u8) -> State
-    ensures { λ r. ⌜ r ≡ atLine section byte ⌝ }
-{
-    if byte == b'f' {
-        return if section < NEED {
-            State::Key(FORBID, 1)
-        } else {
-            State::Wrong
-        };
-    }
-    if byte == b'n' {
-        return State::Key(NEED, 1);
-    }
-    if byte == b'e' {
-        return State::Key(END, 1);
+    let mut i = 0;
+    while i < SECTIONS {
+        let other = section_at(i);
+        if goes_on(behind, section, k, byte, other) {
+            return onward(behind, other, k + 1);
+        }
+        i += 1;
     }
     State::Wrong
 }
 
+// So many bytes of a section's key stand: another one must come, or what stands behind the key.
+fn onward(behind: Behind, section: Section, k: usize) -> State
+    ensures { λ r. ⌜ r ≡ onwardIn behind section k ⌝ }
+{
+    if k < width(section) {
+        State::Key(behind, section, k)
+    } else {
+        value(section)
+    }
+}
+
+// What must come behind a key.
+fn value(section: Section) -> State
+    ensures { λ r. ⌜ r ≡ valueOf section ⌝ }
+{
+    match section {
+        Section::Columns => State::Name(section, 0, 0),
+        Section::Forbid => State::Name(section, 0, 0),
+        Section::Need => State::Name(section, 0, 0),
+        Section::End => State::Number(Digits::None),
+    }
+}
+
 // So many bytes of a name stand. With none a name or a bracket must come, else another byte of the name may come or its end.
-fn name_on(section: usize, count: usize, opened: usize, byte: u8) -> State
+fn name_on(section: Section, count: usize, opened: usize, byte: u8) -> State
     ensures { λ r. ⌜ r ≡ nameOn section count opened byte ⌝ }
 {
     if count == 0 {
@@ -134,7 +121,7 @@ fn name_on(section: usize, count: usize, opened: usize, byte: u8) -> State
 }
 
 // A name must come, or in a need an opening bracket.
-fn at_item(section: usize, opened: usize, byte: u8) -> State
+fn at_item(section: Section, opened: usize, byte: u8) -> State
     ensures { λ r. ⌜ r ≡ atItem section opened byte ⌝ }
 {
     if letter(byte) {
@@ -143,7 +130,7 @@ fn at_item(section: usize, opened: usize, byte: u8) -> State
     if byte != b'(' {
         return State::Wrong;
     }
-    if section != NEED {
+    if !has_brackets(section) {
         return State::Wrong;
     }
     if opened < MOST_BRACKETS {
@@ -152,8 +139,9 @@ fn at_item(section: usize, opened: usize, byte: u8) -> State
     State::Wrong
 }
 
-// A name or a closing bracket has ended. Outside needs no bracket is ever open, so none can be closed there.
-fn behind_item(section: usize, opened: usize, byte: u8) -> State
+// A name or a closing bracket has ended. Outside needs no bracket is ever open, so none can be closed there. Behind a line's end no byte of a key
+// stands; the end line is one that may always follow.
+fn behind_item(section: Section, opened: usize, byte: u8) -> State
     ensures { λ r. ⌜ r ≡ behindItem section opened byte ⌝ }
 {
     if joins(section, byte) {
@@ -168,7 +156,7 @@ fn behind_item(section: usize, opened: usize, byte: u8) -> State
     }
     if byte == LINE_END {
         return if opened == 0 {
-            State::Begin(section)
+            State::Key(Behind::Line(section), Section::End, 0)
         } else {
             State::Wrong
         };
@@ -220,17 +208,25 @@ fn number_ending(digits: Digits) -> State
 }
 
 // Whether the byte joins the names or items of a section.
-fn joins(section: usize, byte: u8) -> bool
+fn joins(section: Section, byte: u8) -> bool
     ensures { λ r. ⌜ r ≡ joining section byte ⌝ }
 {
-    if byte == b',' {
-        return section == COLUMNS;
+    match section {
+        Section::Columns => byte == b',',
+        Section::Forbid => byte == b'+',
+        Section::Need => byte == b'&' || byte == b'|',
+        Section::End => false,
     }
-    if byte == b'+' {
-        return section == FORBID;
+}
+
+// Whether the items of a section may be in brackets.
+fn has_brackets(section: Section) -> bool
+    ensures { λ r. ⌜ r ≡ hasBrackets section ⌝ }
+{
+    match section {
+        Section::Columns => false,
+        Section::Forbid => false,
+        Section::Need => true,
+        Section::End => false,
     }
-    if byte == b'&' || byte == b'|' {
-        return section == NEED;
-    }
-    false
 }

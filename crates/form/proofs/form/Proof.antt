@@ -12,7 +12,7 @@ use borrow.Author.Needs.{needs}
 use Rattle.form.specs.declared.machine.State.{State}
 use Rattle.form.specs.declared.machine.State.the-variants.{Done, Wrong}
 use Rattle.form.proofs.machine.State.{the-type}
-use Rattle.form.proofs.Places.{Followed, followed-begin, followed-inside, followed-on, followed-wrong, followed-whole, followed-short}
+use Rattle.form.proofs.Places.{Followed, followed-begin, followed-possible, followed-on, followed-wrong, followed-whole, followed-short}
 use Rattle.form.proofs.form.Statement.{statement}
 use Rattle.form.proofs.form.Tie as tie
 
@@ -34,7 +34,7 @@ shared-slice-read-step : tie.Need-shared-slice-read-step Inv-loop μ-loop
 shared-slice-read-step c = search needs
 
 step-requires : tie.Need-step-requires Inv-loop μ-loop
-step-requires c κs = followed-inside _ (c .before .before .loop .inv)
+step-requires c κs = followed-possible _ (c .before .before .loop .inv)
 
 enum-told : tie.Need-enum-told Inv-loop μ-loop
 enum-told c = search needs
@@ -57,7 +57,7 @@ loop-again c =
     let turn = c .before .before .before in
     let stepped = c .before .step in
     followed-on (turn .before .before .before .args .text .now) (stepped .result) (turn .before .loop .inv) (turn .loop-test .taken)
-    (stepped .ensures) (not-left (0 ∷ 1 ∷ 2 ∷ 3 ∷ 4 ∷ 5 ∷ []) (stepped .result) Wrong tt (c .match .keys2))
+    (stepped .ensures) (not-left (0 ∷ 1 ∷ 2 ∷ 3 ∷ 4 ∷ []) (stepped .result) Wrong tt (c .match .keys2))
 
 enum-told-2 : tie.Need-enum-told-2 Inv-loop μ-loop
 enum-told-2 c = search needs
@@ -71,7 +71,7 @@ returns-3 : tie.Need-returns-3 Inv-loop μ-loop
 returns-3 c =
     let over = c .before in
     followed-short (over .before .before .before .args .text .now) (over .before .loop .inv) (over .loop-test .left)
-    (not-left (0 ∷ 1 ∷ 2 ∷ 3 ∷ 4 ∷ 6 ∷ []) (over .before .loop .state) Done tt (c .match2 .keys2))
+    (not-left (0 ∷ 1 ∷ 2 ∷ 3 ∷ 5 ∷ []) (over .before .loop .state) Done tt (c .match2 .keys2))
 
 pub form-spec : {M : Type 1} → statement M
 form-spec =

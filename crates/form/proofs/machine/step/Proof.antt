@@ -12,23 +12,17 @@ in-key-requires c κs = rw (c .before .state .given .1) at (c .before .before .b
 enum-known-state-2 : tie.Need-enum-known-state-2
 enum-known-state-2 c = search needs
 
-at-line-requires : tie.Need-at-line-requires
-at-line-requires c κs = search needs
+name-on-requires : tie.Need-name-on-requires
+name-on-requires c κs = search needs
 
 enum-known-state-3 : tie.Need-enum-known-state-3
 enum-known-state-3 c = search needs
 
-name-on-requires : tie.Need-name-on-requires
-name-on-requires c κs = search needs
-
-enum-known-state-4 : tie.Need-enum-known-state-4
-enum-known-state-4 c = search needs
-
 behind-item-requires : tie.Need-behind-item-requires
 behind-item-requires c κs = search needs
 
-enum-known-state-5 : tie.Need-enum-known-state-5
-enum-known-state-5 c = search needs
+enum-known-state-4 : tie.Need-enum-known-state-4
+enum-known-state-4 c = search needs
 
 in-number-requires : tie.Need-in-number-requires
 in-number-requires c κs = search needs
@@ -43,22 +37,19 @@ returns : tie.Need-returns
 returns c = rw (c .before .before .state .given .1) (c .in-key .ensures)
 
 returns-2 : tie.Need-returns-2
-returns-2 c = rw (c .before .before .state2 .given .1) (c .at-line .ensures)
+returns-2 c = rw (c .before .before .state2 .given .1) (c .name-on .ensures)
 
 returns-3 : tie.Need-returns-3
-returns-3 c = rw (c .before .before .state3 .given .1) (c .name-on .ensures)
+returns-3 c = rw (c .before .before .state3 .given .1) (c .behind-item .ensures)
 
 returns-4 : tie.Need-returns-4
-returns-4 c = rw (c .before .before .state4 .given .1) (c .behind-item .ensures)
+returns-4 c = rw (c .before .before .state4 .given .1) (c .in-number .ensures)
 
 returns-5 : tie.Need-returns-5
-returns-5 c = rw (c .before .before .state5 .given .1) (c .in-number .ensures)
+returns-5 c = search needs
 
 returns-6 : tie.Need-returns-6
 returns-6 c = search needs
-
-returns-7 : tie.Need-returns-7
-returns-7 c = search needs
 
 pub step-spec : {M : Type 1} → statement M
 step-spec =
@@ -67,12 +58,10 @@ step-spec =
     enum-known-state
     in-key-requires
     enum-known-state-2
-    at-line-requires
-    enum-known-state-3
     name-on-requires
-    enum-known-state-4
+    enum-known-state-3
     behind-item-requires
-    enum-known-state-5
+    enum-known-state-4
     in-number-requires
     enum-told
     enum-told-2
@@ -81,5 +70,4 @@ step-spec =
     returns-3
     returns-4
     returns-5
-    returns-6
-    returns-7)
+    returns-6)

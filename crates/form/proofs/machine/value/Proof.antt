@@ -1,14 +1,33 @@
 -- `form::machine::value` meets its contract. Assumes nothing.
-use borrow.Author.Tests.{lt-ltb, le-ltb}
-use Rattle.form.specs.Machine.{endSection}
+use borrow.Author.Needs.{needs}
 use Rattle.form.proofs.machine.value.Statement.{statement}
 use Rattle.form.proofs.machine.value.Tie as tie
 
+enum-told : tie.Need-enum-told
+enum-told c = search needs
+
+enum-told-2 : tie.Need-enum-told-2
+enum-told-2 c = search needs
+
+enum-told-3 : tie.Need-enum-told-3
+enum-told-3 c = search needs
+
+enum-told-4 : tie.Need-enum-told-4
+enum-told-4 c = search needs
+
 returns : tie.Need-returns
-returns c = rw (lt-ltb (c .before .args .section) endSection (c .if1 .taken))
+returns c = rw (c .enum-told .given .1)
 
 returns-2 : tie.Need-returns-2
-returns-2 c = rw (le-ltb (c .before .args .section) endSection (c .if1 .left))
+returns-2 c = rw (c .enum-told2 .given .1)
+
+returns-3 : tie.Need-returns-3
+returns-3 c = rw (c .enum-told3 .given .1)
+
+returns-4 : tie.Need-returns-4
+returns-4 c = rw (c .enum-told4 .given .1)
 
 pub value-spec : {M : Type 1} → statement M
-value-spec = tie.close (tie.spec returns returns-2)
+value-spec =
+    tie.close
+    (tie.spec enum-told enum-told-2 enum-told-3 enum-told-4 returns returns-2 returns-3 returns-4)

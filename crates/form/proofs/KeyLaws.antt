@@ -1,0 +1,195 @@
+-- Laws of the keys of lines, and of keys that begin alike. Assumes nothing.
+use mathlib.Core.Path.{_≡_, refl, sym, ap, _∙_}
+use mathlib.Core.Logic.{_⊎_, inl, inr}
+use mathlib.Core.Bool.{Bool, true, false, cond, _&&_, true≢false}
+use mathlib.Core.List.{List, [], _∷_, List·Memᴰ}
+use mathlib.Core.List.List·Memᴰ.{List·Memᴰ·head, List·Memᴰ·tail}
+use Prim.Native.Nat.{ℕ, zero, suc, _+_, _-_, _<_, _≤_}
+use native.Mathlib.Nat.{lt-of-not-le}
+use native.Mathlib.Numerals.{add-one}
+use native.Mathlib.Omega.{arith}
+use lib.Dec.{ltb, leb, eqb}
+use lib.ListN.{length, getD, drop}
+use lib.Seq.{drop-cons}
+use borrow.Author.Count.{below-more}
+use borrow.Author.Tests.{ltb-true, lt-ltb, le-ltb, leb-true, leb-false, eqb-true, eq-eqb, ne-eqb}
+use Rattle.rules.specs.Lists.{every}
+use Rattle.rules.specs.Signs.{byteAt, Says, says-all, says-byte}
+use Rattle.rules.proofs.Lists.{and-parts, and-both, every-in, getD-in}
+use Rattle.naming.specs.Sections.{keyOf, widthOf}
+use Rattle.naming.specs.declared.sections.Section.{Section}
+use Rattle.form.specs.declared.order.Behind.{Behind}
+use Rattle.form.specs.declared.machine.State.{State}
+use Rattle.form.specs.declared.machine.State.the-variants.{Key, Wrong}
+use Rattle.form.specs.Order.{sections, follows}
+use Rattle.form.specs.Keys.{alike, goesOn}
+use Rattle.form.specs.Machine.{valueOf, onward, firstOn, inKey}
+use Rattle.form.proofs.Table.{order, same-order, each, each-pair, whenever, then-holds}
+
+-- ---- bytes of keys
+
+-- no byte of a key is 0
+pub key-byte : (section : Section) (k : ℕ) → k < widthOf section → 0 < byteAt (keyOf section) k
+unfolding every
+key-byte section k h =
+    ltb-true 0 (byteAt (keyOf section) k)
+    (every-in (ltb 0) (each (λ a. every (ltb 0) (keyOf a)) refl section) (getD-in (keyOf section) k 0 h))
+
+-- k bytes stand from place p on that are the first ones of these
+abbrev pub Begun : List ℕ → ℕ → List ℕ → ℕ → Type 0
+Begun s p bytes k = (i : ℕ) → i < k → byteAt s (p + i) ≡ byteAt bytes i
+
+-- all of them stand
+pub said-begun : {s bytes : List ℕ} {p : ℕ} → Says s p bytes → Begun s p bytes (length bytes)
+said-begun says-all i h = absurd (omega arith)
+said-begun {s} (says-byte {p} e more) zero h = let place : p + 0 ≡ p = omega arith in rw place e
+said-begun {s} (says-byte {p} e more) (suc i) h = let place : p + suc i ≡ suc p + i = omega arith in rw place (said-begun more i (omega arith))
+
+pub begun-said : (s bytes : List ℕ) (p : ℕ) → Begun s p bytes (length bytes) → Says s p bytes
+begun-said s [] p f = says-all
+begun-said s (b ∷ bytes) p f =
+    let here : p + 0 ≡ p = omega arith in
+    says-byte (rw here at (f 0 (omega arith)))
+    (begun-said s bytes (suc p) (λ i h. let place : p + suc i ≡ suc p + i = omega arith in rw place at (f (suc i) (omega arith))))
+
+-- ---- keys that begin alike
+
+-- the first k bytes of two keys are the same
+abbrev pub SameTo : Section → Section → ℕ → Type 0
+SameTo a b k = (i : ℕ) → i < k → byteAt (keyOf a) i ≡ byteAt (keyOf b) i
+
+alike-same : (a b : Section) (k : ℕ) → alike a b k ≡ true → SameTo a b k
+unfolding alike
+alike-same a b zero e = λ i h. absurd (omega arith)
+alike-same a b (suc k) e =
+    let parts = and-parts (eqb (byteAt (keyOf a) k) (byteAt (keyOf b) k)) (alike a b k) e in
+    rw (← add-one k) (below-more (λ (i : ℕ). byteAt (keyOf a) i ≡ byteAt (keyOf b) i) k (alike-same a b k (parts .1)) (eqb-true (byteAt (keyOf a) k) (byteAt (keyOf b) k) (parts .0)))
+
+same-alike : (a b : Section) (k : ℕ) → SameTo a b k → alike a b k ≡ true
+unfolding alike
+same-alike a b zero f = refl
+same-alike a b (suc k) f =
+    and-both (eqb (byteAt (keyOf a) k) (byteAt (keyOf b) k)) (alike a b k) (eq-eqb (byteAt (keyOf a) k) (byteAt (keyOf b) k) (f k (omega arith)))
+    (same-alike a b k (λ i h. f i (omega arith)))
+
+-- the last of some bytes tells whether all can be the same
+pub alike-on : (a b : Section) (i : ℕ) → 0 < i → byteAt (keyOf a) (i - 1) ≡ byteAt (keyOf b) (i - 1) → alike a b i ≡ alike a b (i - 1)
+unfolding alike
+alike-on a b zero h e = absurd (omega arith)
+alike-on a b (suc i) h e =
+    let last : suc i - 1 ≡ i = omega arith in
+    rw (last, eq-eqb (byteAt (keyOf a) i) (byteAt (keyOf b) i) (rw last at e))
+
+pub alike-stops : (a b : Section) (i : ℕ) → 0 < i → (byteAt (keyOf a) (i - 1) ≡ byteAt (keyOf b) (i - 1) → ⊥) → alike a b i ≡ false
+unfolding alike
+alike-stops a b zero h n = absurd (omega arith)
+alike-stops a b (suc i) h n =
+    let last : i ≡ suc i - 1 = omega arith in
+    rw (ne-eqb (byteAt (keyOf a) i) (byteAt (keyOf b) i) (λ e. n (rw last at e)))
+
+-- no key is the beginning of another: a key whose bytes all begin another is that one
+pub apart : (a b : Section) → SameTo a b (widthOf a) → a ≡ b
+unfolding every alike
+apart a b f =
+    same-order
+    (eqb-true (order a) (order b)
+    (then-holds (alike a b (widthOf a)) _ (each-pair (λ a b. whenever (alike a b (widthOf a)) (eqb (order a) (order b))) refl a b)
+    (same-alike a b (widthOf a) f)))
+
+-- so of keys that begin alike none ends before another
+pub inside-both : (a b : Section) (k : ℕ) → SameTo a b k → k < widthOf a → k < widthOf b
+inside-both a b k f h = lt-of-not-le (λ (g : widthOf b ≤ k).
+    let same : b ≡ a = apart b a (λ i l. sym (f i (omega arith))) in
+    let width = ap widthOf same in
+    absurd (omega arith))
+
+-- one key stands at a place
+pub one-key : {s : List ℕ} {p : ℕ} (a b : Section) → Says s p (keyOf a) → Says s p (keyOf b) → a ≡ b
+one-key a b one other = go (leb (widthOf a) (widthOf b)) refl
+  where
+    go : (test : Bool) → leb (widthOf a) (widthOf b) ≡ test → a ≡ b
+    go true e =
+        let h = leb-true (widthOf a) (widthOf b) e in
+        apart a b (λ i l. sym (said-begun one i l) ∙ said-begun other i (omega arith))
+    go false e =
+        let h = leb-false (widthOf a) (widthOf b) e in
+        sym (apart b a (λ i l. sym (said-begun other i l) ∙ said-begun one i (omega arith)))
+
+-- ---- one byte more
+
+module _ (behind : Behind) (section : Section) (k b : ℕ) where
+  -- what it means that a key goes on
+  pub record GoesOn (other : Section) : Type 0 where
+    pub byte : byteAt (keyOf other) k ≡ b
+    pub may : follows behind other ≡ true
+    pub same : SameTo section other k
+
+  goes-parts : (other : Section) → goesOn behind section k b other ≡ true → GoesOn other
+  goes-parts other e =
+      let parts = and-parts (eqb b (byteAt (keyOf other) k)) (follows behind other && alike section other k) e in
+      let more = and-parts (follows behind other) (alike section other k) (parts .1) in
+      record {
+        byte = sym (eqb-true b (byteAt (keyOf other) k) (parts .0));
+        may = more .0;
+        same = alike-same section other k (more .1);
+      }
+
+  pub goes-all : (other : Section) → GoesOn other → goesOn behind section k b other ≡ true
+  goes-all other g =
+      and-both (eqb b (byteAt (keyOf other) k)) _ (eq-eqb b (byteAt (keyOf other) k) (sym (g .byte)))
+      (and-both (follows behind other) _ (g .may) (same-alike section other k (g .same)))
+
+  -- the byte is one of a key that goes on
+  abbrev pub Goes : State → Type 0
+  Goes state = (other : Section) × GoesOn other × (state ≡ onward behind other (suc k))
+
+  -- the byte is one of a key, or the state is wrong
+  pub first-on : (others : List Section) → Goes (firstOn behind section k b others) ⊎ (firstOn behind section k b others ≡ Wrong)
+  unfolding firstOn
+  first-on [] = inr refl
+  first-on (other ∷ others) = go (goesOn behind section k b other) refl (first-on others)
+    where
+      go : (test : Bool) → goesOn behind section k b other ≡ test
+          → Goes (firstOn behind section k b others) ⊎ (firstOn behind section k b others ≡ Wrong)
+          → Goes (cond test (onward behind other (suc k)) (firstOn behind section k b others))
+          ⊎ (cond test (onward behind other (suc k)) (firstOn behind section k b others) ≡ Wrong)
+      go true e more = inl (other, goes-parts other e, refl)
+      go false e more = more
+
+  -- where one of the keys goes on the byte is one of a key
+  pub first-found : (other : Section) {others : List Section} → GoesOn other → List·Memᴰ other others → Goes (firstOn behind section k b others)
+  unfolding firstOn
+  first-found other {others = one ∷ others} g m = go (goesOn behind section k b one) refl m (first-found other {others = others} g)
+    where
+      go : (test : Bool) → goesOn behind section k b one ≡ test → List·Memᴰ other (one ∷ others)
+          → (List·Memᴰ other others → Goes (firstOn behind section k b others))
+          → Goes (cond test (onward behind one (suc k)) (firstOn behind section k b others))
+      go true e m more = (one, goes-parts one e, refl)
+      go false e (List·Memᴰ·head same) more = absurd (true≢false (sym (goes-all other g) ∙ ap (goesOn behind section k b) same ∙ e))
+      go false e (List·Memᴰ·tail m) more = more m
+
+  -- the one at place i goes on, or the first is to be found behind it
+  module _ (others : List Section) (i : ℕ) (last other : Section) (h : i < length others) (is : other ≡ getD others i last) where
+    pub first-here : goesOn behind section k b other ≡ true → firstOn behind section k b (drop i others) ≡ onward behind other (k + 1)
+    unfolding firstOn
+    first-here e = rw (drop-cons others i last h, ← is, e, add-one k)
+
+    pub first-next : goesOn behind section k b other ≡ false → firstOn behind section k b (drop i others) ≡ firstOn behind section k b (drop (i + 1) others)
+    unfolding firstOn
+    first-next e = rw (drop-cons others i last h, ← is, e, add-one i)
+
+  -- the section's own key goes on where the byte is its next one, and else another may
+  pub own-on : follows behind section ≡ true → b ≡ byteAt (keyOf section) k → inKey behind section k b ≡ onward behind section (k + 1)
+  unfolding firstOn
+  own-on may e = rw (goes-all section (record { byte = sym e; may = may; same = λ i h. refl }), add-one k)
+
+  pub other-on : (b ≡ byteAt (keyOf section) k → ⊥) → inKey behind section k b ≡ firstOn behind section k b sections
+  unfolding firstOn
+  other-on n = rw (ne-eqb b (byteAt (keyOf section) k) n)
+
+-- fewer bytes of a key stand than it has, or all
+pub onward-key : (behind : Behind) (section : Section) (k : ℕ) → k < widthOf section → onward behind section k ≡ Key behind section k
+onward-key behind section k h = rw (lt-ltb k (widthOf section) h)
+
+pub onward-value : (behind : Behind) (section : Section) (k : ℕ) → widthOf section ≤ k → onward behind section k ≡ valueOf section
+onward-value behind section k h = rw (le-ltb k (widthOf section) h)

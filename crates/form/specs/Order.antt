@@ -1,0 +1,26 @@
+-- The sections of a text in their order, and which may follow which.
+use mathlib.Core.Bool.{Bool, true, false}
+use mathlib.Core.List.{List, [], _∷_}
+use Rattle.naming.specs.declared.sections.Section.{Section}
+use Rattle.naming.specs.declared.sections.Section.the-variants.{Columns, Forbid, Need, End}
+use Rattle.form.specs.declared.order.Behind.{Behind}
+use Rattle.form.specs.declared.order.Behind.the-variants.{Nothing, Line}
+
+-- all sections, in their order
+abbrev pub sections : List Section
+sections = Columns ∷ Forbid ∷ Need ∷ End ∷ []
+
+-- the entry of a row for a section
+abbrev pub row : Bool → Bool → Bool → Bool → Section → Bool
+row columns forbid need end Columns = columns
+row columns forbid need end Forbid = forbid
+row columns forbid need end Need = need
+row columns forbid need end End = end
+
+-- a line of the section may stand behind this; a row has an entry for each section, in their order
+abbrev pub follows : Behind → Section → Bool
+follows Nothing section = row true false false false section
+follows (Line Columns) section = row false true true true section
+follows (Line Forbid) section = row false true true true section
+follows (Line Need) section = row false false true true section
+follows (Line End) section = row false false false false section

@@ -1,0 +1,53 @@
+// The sections of a text in their order, and which may follow which.
+use naming::sections::Section;
+ghost use mathlib.Core.Path.{_≡_};
+ghost use lib.ListN.{getD};
+ghost use Rattle.naming.specs.declared.sections.Section.the-variants.{End};
+ghost use Rattle.form.specs.Order.{sections, row as rowOf, follows as mayFollow};
+
+// What stands before a line.
+pub enum Behind {
+    Nothing, // the text begins
+    Line(Section), // a line of this section
+}
+
+pub const SECTIONS: usize = 4;
+
+// The section at a place of the order.
+pub fn section_at(place: usize) -> Section
+    ensures { λ r. ⌜ r ≡ getD sections place End ⌝ }
+{
+    match place {
+        0 => Section::Columns,
+        1 => Section::Forbid,
+        2 => Section::Need,
+        _ => Section::End,
+    }
+}
+
+// Whether a line of the section may stand behind this. The rows have an entry for each section, in their order.
+pub fn follows(behind: Behind, section: Section) -> bool
+    ensures { λ r. ⌜ r ≡ mayFollow behind section ⌝ }
+{
+    match behind {
+        Behind::Nothing => row(true, false, false, false, section),
+        Behind::Line(before) => match before {
+            Section::Columns => row(false, true, true, true, section),
+            Section::Forbid => row(false, true, true, true, section),
+            Section::Need => row(false, false, true, true, section),
+            Section::End => row(false, false, false, false, section),
+        },
+    }
+}
+
+// The entry of a row for a section.
+fn row(columns: bool, forbid: bool, need: bool, end: bool, section: Section) -> bool
+    ensures { λ r. ⌜ r ≡ rowOf columns forbid need end section ⌝ }
+{
+    match section {
+        Section::Columns => columns,
+        Section::Forbid => forbid,
+        Section::Need => need,
+        Section::End => end,
+    }
+}
