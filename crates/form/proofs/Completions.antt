@@ -3,13 +3,11 @@
 use mathlib.Core.Path.{_≡_, refl, sym, ap, subst, _∙_}
 use mathlib.Core.Bool.{true}
 use mathlib.Core.List.{List, [], _∷_, _++_}
-use Prim.Native.Nat.{ℕ, zero, suc, _+_, _-_, _<_}
-use native.Mathlib.Numerals.{add-one}
+use Prim.Native.Nat.{ℕ, zero, suc, _-_, _<_}
 use native.Mathlib.Omega.{arith}
 use lib.Dec.{lit<}
-use lib.ListN.{drop, drop-of-length-le}
-use lib.Seq.{drop-cons}
-use Rattle.rules.specs.Signs.{byteAt, lineEnd, bracketClose}
+use lib.ListN.{drop}
+use Rattle.rules.specs.Signs.{lineEnd, bracketClose}
 use Rattle.naming.specs.Sections.{keyOf, widthOf}
 use Rattle.naming.specs.declared.sections.Section.{Section}
 use Rattle.naming.specs.declared.sections.Section.the-variants.{Columns, Forbid, Need, End}
@@ -19,11 +17,12 @@ use Rattle.form.specs.declared.machine.Digits.{Digits}
 use Rattle.form.specs.declared.machine.Digits.the-variants.{None, Zero, Other, Two}
 use Rattle.form.specs.declared.machine.State.{State}
 use Rattle.form.specs.declared.machine.State.the-variants.{Key, Name, Closed, Number, Done, Wrong}
-use Rattle.form.specs.Order.{follows}
-use Rattle.form.specs.Machine.{valueOf, onward, newLine, step, Possible, run}
-use Rattle.form.proofs.KeyLaws.{own-on, onward-key, onward-value}
+use Rattle.form.specs.Order.{follows, likely}
+use Rattle.form.specs.Machine.{valueOf, newLine, step, Possible, run}
+use Rattle.form.proofs.KeyLaws.{SameTo}
 use Rattle.form.proofs.Signs.{line-over, bracket-over}
 use Rattle.form.proofs.Runs.{run-append}
+use Rattle.form.proofs.RunKeys.{run-key}
 
 -- bytes that lead from a state to the end
 abbrev pub CanEnd : State → Type 0
@@ -37,30 +36,12 @@ byte-more b state c = (b ∷ c .0, c .1)
 -- ---- keys
 
 module _ (behind : Behind) (section : Section) (may : follows behind section ≡ true) where
-  -- the next byte of a key leads on in it
-  run-own : (k : ℕ) → step (Key behind section k) (byteAt (keyOf section) k) ≡ onward behind section (suc k)
-  run-own k = rw (← add-one k) (own-on behind section k (byteAt (keyOf section) k) may refl)
-
-  -- the rest of a key leads behind it
-  run-key : (left k : ℕ) → suc k + left ≡ widthOf section → run (Key behind section k) (drop k (keyOf section)) ≡ valueOf section
-  unfolding run
-  run-key zero k e =
-      let key = keyOf section in
-      ap (run (Key behind section k)) (drop-cons key k 0 (omega arith))
-      ∙ ap (λ (state : State). run state (drop (suc k) key)) (run-own k ∙ onward-value behind section (suc k) (omega arith))
-      ∙ ap (run (valueOf section)) (drop-of-length-le key {i = suc k} (omega arith))
-  run-key (suc left) k e =
-      let key = keyOf section in
-      ap (run (Key behind section k)) (drop-cons key k 0 (omega arith))
-      ∙ ap (λ (state : State). run state (drop (suc k) key)) (run-own k ∙ onward-key behind section (suc k) (omega arith))
-      ∙ run-key left (suc k) (omega arith)
-
-  complete-key : (k : ℕ) → k < widthOf section → CanEnd (valueOf section) → CanEnd (Key behind section k)
-  complete-key k h value =
+  complete-key : (other : Section) (k : ℕ) → SameTo other section k → k < widthOf section → CanEnd (valueOf section) → CanEnd (Key other behind k)
+  complete-key other k same h value =
       let key = keyOf section in (
         drop k key ++ value .0,
-        run-append (Key behind section k) (drop k key) (value .0)
-            ∙ ap (λ (state : State). run state (value .0)) (run-key (widthOf section - suc k) k (omega arith))
+        run-append (Key other behind k) (drop k key) (value .0)
+            ∙ ap (λ (state : State). run state (value .0)) (run-key behind section may (widthOf section - suc k) other k (omega arith) same)
             ∙ value .1,
       )
 
@@ -75,7 +56,7 @@ complete-number Two = (lineEnd ∷ [], refl)
 
 -- the end line follows
 complete-line : (section : Section) → follows (Line section) End ≡ true → CanEnd (newLine section)
-complete-line section ends = complete-key (Line section) End ends 0 (lit< tt) (complete-number None)
+complete-line section ends = complete-key (Line section) End ends (likely section) 0 (λ i h. absurd (omega arith)) (lit< tt) (complete-number None)
 
 complete-closed : (opened : ℕ) → CanEnd (Closed opened)
 complete-closed zero = byte-more lineEnd (Closed zero) (complete-line Need refl)
@@ -102,7 +83,7 @@ complete-value End = complete-number None
 -- every possible state but the wrong one can be completed
 pub can-end : (state : State) → Possible state → (state ≡ Wrong → ⊥) → CanEnd state
 unfolding run
-can-end (Key behind section k) h f = complete-key behind section (h .0) k (h .1) (complete-value section)
+can-end (Key section behind k) h f = complete-key behind section (h .0) section k (λ i l. refl) (h .1) (complete-value section)
 can-end (Name section n opened) h f = complete-name section h n opened
 can-end (Closed opened) h f = complete-closed opened
 can-end (Number digits) h f = complete-number digits

@@ -15,7 +15,7 @@ use Rattle.form.proofs.Places.{Followed, followed-begin, followed-on, f
 -- whether a state is this one
 wrong-or-not : (state : State) → (state ≡ Wrong) ⊎ (state ≡ Wrong → ⊥)
 wrong-or-not Wrong = inl refl
-wrong-or-not (Key behind section k) = inr (λ e. let z : _≡_ {A = ℕ} 0 1 = cc in omega arith)
+wrong-or-not (Key section behind k) = inr (λ e. let z : _≡_ {A = ℕ} 0 1 = cc in omega arith)
 wrong-or-not (Name section k opened) = inr (λ e. let z : _≡_ {A = ℕ} 0 1 = cc in omega arith)
 wrong-or-not (Closed opened) = inr (λ e. let z : _≡_ {A = ℕ} 0 1 = cc in omega arith)
 wrong-or-not (Number digits) = inr (λ e. let z : _≡_ {A = ℕ} 0 1 = cc in omega arith)
@@ -23,7 +23,7 @@ wrong-or-not Done = inr (λ e. let z : _≡_ {A = ℕ} 0 1 = cc in omega arith)
 
 done-or-not : (state : State) → (state ≡ Done) ⊎ (state ≡ Done → ⊥)
 done-or-not Done = inl refl
-done-or-not (Key behind section k) = inr (λ e. let z : _≡_ {A = ℕ} 0 1 = cc in omega arith)
+done-or-not (Key section behind k) = inr (λ e. let z : _≡_ {A = ℕ} 0 1 = cc in omega arith)
 done-or-not (Name section k opened) = inr (λ e. let z : _≡_ {A = ℕ} 0 1 = cc in omega arith)
 done-or-not (Closed opened) = inr (λ e. let z : _≡_ {A = ℕ} 0 1 = cc in omega arith)
 done-or-not (Number digits) = inr (λ e. let z : _≡_ {A = ℕ} 0 1 = cc in omega arith)

@@ -12,10 +12,10 @@ use lib.Dec.{ltb, leb, eqb}
 use lib.ListN.{length, getD, drop}
 use lib.Seq.{drop-cons}
 use borrow.Author.Count.{below-more}
-use borrow.Author.Tests.{ltb-true, lt-ltb, le-ltb, leb-true, leb-false, eqb-true, eq-eqb, ne-eqb}
+use borrow.Author.Tests.{lt-ltb, le-ltb, leb-true, leb-false, eqb-true, eq-eqb, ne-eqb}
 use Rattle.rules.specs.Lists.{every}
 use Rattle.rules.specs.Signs.{byteAt, Says, says-all, says-byte}
-use Rattle.rules.proofs.Lists.{and-parts, and-both, every-in, getD-in}
+use Rattle.rules.proofs.Lists.{not-holds, and-parts, and-both}
 use Rattle.naming.specs.Sections.{keyOf, widthOf}
 use Rattle.naming.specs.declared.sections.Section.{Section}
 use Rattle.form.specs.declared.order.Behind.{Behind}
@@ -29,11 +29,9 @@ use Rattle.form.proofs.Table.{order, same-order, each, each-pair, whene
 -- ---- bytes of keys
 
 -- no byte of a key is 0
-pub key-byte : (section : Section) (k : ℕ) → k < widthOf section → 0 < byteAt (keyOf section) k
+pub key-bytes : (section : Section) → every (ltb 0) (keyOf section) ≡ true
 unfolding every
-key-byte section k h =
-    ltb-true 0 (byteAt (keyOf section) k)
-    (every-in (ltb 0) (each (λ a. every (ltb 0) (keyOf a)) refl section) (getD-in (keyOf section) k 0 h))
+key-bytes section = each (λ a. every (ltb 0) (keyOf a)) refl section
 
 -- k bytes stand from place p on that are the first ones of these
 abbrev pub Begun : List ℕ → ℕ → List ℕ → ℕ → Type 0
@@ -63,7 +61,8 @@ unfolding alike
 alike-same a b zero e = λ i h. absurd (omega arith)
 alike-same a b (suc k) e =
     let parts = and-parts (eqb (byteAt (keyOf a) k) (byteAt (keyOf b) k)) (alike a b k) e in
-    rw (← add-one k) (below-more (λ (i : ℕ). byteAt (keyOf a) i ≡ byteAt (keyOf b) i) k (alike-same a b k (parts .1)) (eqb-true (byteAt (keyOf a) k) (byteAt (keyOf b) k) (parts .0)))
+    let last = eqb-true (byteAt (keyOf a) k) (byteAt (keyOf b) k) (parts .0) in
+    rw (← add-one k) (below-more (λ (i : ℕ). byteAt (keyOf a) i ≡ byteAt (keyOf b) i) k (alike-same a b k (parts .1)) last)
 
 same-alike : (a b : Section) (k : ℕ) → SameTo a b k → alike a b k ≡ true
 unfolding alike
@@ -72,7 +71,7 @@ same-alike a b (suc k) f =
     and-both (eqb (byteAt (keyOf a) k) (byteAt (keyOf b) k)) (alike a b k) (eq-eqb (byteAt (keyOf a) k) (byteAt (keyOf b) k) (f k (omega arith)))
     (same-alike a b k (λ i h. f i (omega arith)))
 
--- the last of some bytes tells whether all can be the same
+-- the last of some bytes is the same, or none of the others matters
 pub alike-on : (a b : Section) (i : ℕ) → 0 < i → byteAt (keyOf a) (i - 1) ≡ byteAt (keyOf b) (i - 1) → alike a b i ≡ alike a b (i - 1)
 unfolding alike
 alike-on a b zero h e = absurd (omega arith)
@@ -126,18 +125,18 @@ module _ (behind : Behind) (section : Section) (k b : ℕ) where
 
   goes-parts : (other : Section) → goesOn behind section k b other ≡ true → GoesOn other
   goes-parts other e =
-      let parts = and-parts (eqb b (byteAt (keyOf other) k)) (follows behind other && alike section other k) e in
-      let more = and-parts (follows behind other) (alike section other k) (parts .1) in
+      let parts = and-parts (follows behind other) (eqb b (byteAt (keyOf other) k) && alike section other k) e in
+      let more = and-parts (eqb b (byteAt (keyOf other) k)) (alike section other k) (parts .1) in
       record {
-        byte = sym (eqb-true b (byteAt (keyOf other) k) (parts .0));
-        may = more .0;
+        byte = sym (eqb-true b (byteAt (keyOf other) k) (more .0));
+        may = parts .0;
         same = alike-same section other k (more .1);
       }
 
   pub goes-all : (other : Section) → GoesOn other → goesOn behind section k b other ≡ true
   goes-all other g =
-      and-both (eqb b (byteAt (keyOf other) k)) _ (eq-eqb b (byteAt (keyOf other) k) (sym (g .byte)))
-      (and-both (follows behind other) _ (g .may) (same-alike section other k (g .same)))
+      and-both (follows behind other) _ (g .may)
+      (and-both (eqb b (byteAt (keyOf other) k)) _ (eq-eqb b (byteAt (keyOf other) k) (sym (g .byte))) (same-alike section other k (g .same)))
 
   -- the byte is one of a key that goes on
   abbrev pub Goes : State → Type 0
@@ -174,7 +173,8 @@ module _ (behind : Behind) (section : Section) (k b : ℕ) where
     unfolding firstOn
     first-here e = rw (drop-cons others i last h, ← is, e, add-one k)
 
-    pub first-next : goesOn behind section k b other ≡ false → firstOn behind section k b (drop i others) ≡ firstOn behind section k b (drop (i + 1) others)
+    pub first-next : goesOn behind section k b other ≡ false
+        → firstOn behind section k b (drop i others) ≡ firstOn behind section k b (drop (i + 1) others)
     unfolding firstOn
     first-next e = rw (drop-cons others i last h, ← is, e, add-one i)
 
@@ -185,10 +185,10 @@ module _ (behind : Behind) (section : Section) (k b : ℕ) where
 
   pub other-on : (b ≡ byteAt (keyOf section) k → ⊥) → inKey behind section k b ≡ firstOn behind section k b sections
   unfolding firstOn
-  other-on n = rw (ne-eqb b (byteAt (keyOf section) k) n)
+  other-on n = rw (not-holds (goesOn behind section k b section) (λ e. n (sym (goes-parts section e .byte))))
 
 -- fewer bytes of a key stand than it has, or all
-pub onward-key : (behind : Behind) (section : Section) (k : ℕ) → k < widthOf section → onward behind section k ≡ Key behind section k
+pub onward-key : (behind : Behind) (section : Section) (k : ℕ) → k < widthOf section → onward behind section k ≡ Key section behind k
 onward-key behind section k h = rw (lt-ltb k (widthOf section) h)
 
 pub onward-value : (behind : Behind) (section : Section) (k : ℕ) → widthOf section ≤ k → onward behind section k ≡ valueOf section

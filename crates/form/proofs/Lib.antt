@@ -3,6 +3,7 @@ pub mod Table
 pub mod KeyLaws
 pub mod Signs
 pub mod Runs
+pub mod RunKeys
 pub mod Possible
 pub mod Completions
 pub mod Walks

@@ -26,7 +26,7 @@ decided true = inl refl
 decided false = inr refl
 
 -- the last state is none of the others
-pub not-key : {behind : Behind} {section : Section} {k : ℕ} → Key behind section k ≡ Done → ⊥
+pub not-key : {section : Section} {behind : Behind} {k : ℕ} → Key section behind k ≡ Done → ⊥
 not-key e = let z : _≡_ {A = ℕ} 0 1 = cc in omega arith
 
 pub not-name : {section : Section} {n opened : ℕ} → Name section n opened ≡ Done → ⊥

@@ -4,6 +4,7 @@ use mathlib.Core.Logic.{⊎-elim}
 use mathlib.Core.Bool.{Bool, true, false, cond}
 use mathlib.Core.List.{List, [], _∷_}
 use Prim.Native.Nat.{ℕ, zero, suc}
+use native.Mathlib.Omega.{arith}
 use lib.Dec.{ltb, eqb, lit<}
 use lib.ListN.{take}
 use borrow.Author.Tests.{ltb-true}
@@ -13,15 +14,17 @@ use Rattle.rules.specs.Names.{mostNameBytes}
 use Rattle.naming.specs.Sections.{widthOf}
 use Rattle.naming.specs.declared.sections.Section.{Section}
 use Rattle.naming.specs.declared.sections.Section.the-variants.{Columns, Forbid, Need, End}
+use Rattle.naming.proofs.KeyPlaces.{width-bounds}
 use Rattle.form.specs.declared.order.Behind.{Behind}
 use Rattle.form.specs.declared.order.Behind.the-variants.{Line}
 use Rattle.form.specs.declared.machine.Digits.{Digits}
 use Rattle.form.specs.declared.machine.Digits.the-variants.{None, Zero, Other, Two}
 use Rattle.form.specs.declared.machine.State.{State}
 use Rattle.form.specs.declared.machine.State.the-variants.{Key, Name, Closed, Number, Done, Wrong}
-use Rattle.form.specs.Order.{sections, follows}
+use Rattle.form.specs.Order.{sections, follows, likely}
 use Rattle.form.specs.Machine.{valueOf, onward, joining, hasBrackets, atItem, closing, lineEnding, behindItem, onDigit, numberEnding}
 use Rattle.form.specs.Machine.{inNumber, step, Possible, begin, run, stateAt}
+use Rattle.form.proofs.Table.{likely-may}
 use Rattle.form.proofs.KeyLaws.{first-on}
 
 -- what a test chooses is possible if both are
@@ -41,7 +44,7 @@ possible-onward : (behind : Behind) (section : Section) (k : ℕ) → follows be
 possible-onward behind section k may =
     possible-cond (ltb k (widthOf section)) _ _ (λ e. (may, ltb-true k (widthOf section) e)) (possible-value section)
 
-possible-key : (behind : Behind) (section : Section) (k b : ℕ) → Possible (step (Key behind section k) b)
+possible-key : (behind : Behind) (section : Section) (k b : ℕ) → Possible (step (Key section behind k) b)
 possible-key behind section k b =
     ⊎-elim (λ goes. rw (goes .2) (possible-onward behind (goes .0) (suc k) (goes .1 .may))) (λ wrong. rw wrong tt)
     (first-on behind section k b (section ∷ sections))
@@ -61,7 +64,7 @@ module _ (section : Section) (ends : follows (Line section) End ≡ true) where
       (λ e. possible-cond (hasBrackets section) _ _ (λ e. possible-cond (ltb opened mostBrackets) _ _ (λ e. ends) tt) tt) tt)
 
   possible-ending : (opened : ℕ) → Possible (lineEnding section opened)
-  possible-ending zero = (ends, lit< tt)
+  possible-ending zero = let some = width-bounds (likely section) in (likely-may section ends, omega arith)
   possible-ending (suc opened) = tt
 
   possible-behind : (opened b : ℕ) → Possible (behindItem section opened b)
@@ -95,7 +98,7 @@ possible-number digits b =
 
 -- every step leads from a possible state to one
 possible-step : (state : State) (b : ℕ) → Possible state → Possible (step state b)
-possible-step (Key behind section k) b h = possible-key behind section k b
+possible-step (Key section behind k) b h = possible-key behind section k b
 possible-step (Name section count opened) b h = possible-name section h count opened b
 possible-step (Closed opened) b h = possible-behind Need refl opened b
 possible-step (Number digits) b h = possible-number digits b

@@ -30,22 +30,24 @@ pub record KeyFrom (s : List ℕ) (behind : Behind) (p : ℕ) : Type 0 where
 
 module _ {s : List ℕ} (led : LeadsToEnd s) (behind : Behind) (p : ℕ) where
   -- the next byte is one of a key
-  key-goes : (section : Section) (k : ℕ) → stateAt s (p + k) ≡ Key behind section k → Goes behind section k (byteAt s (p + k)) (stateAt s (p + k + 1))
+  key-goes : (section : Section) (k : ℕ) → stateAt s (p + k) ≡ Key section behind k → Goes behind section k (byteAt s (p + k)) (stateAt s (p + k + 1))
   key-goes section k e =
       let b = byteAt s (p + k) in
-      let next = goes led (p + k) (Key behind section k) not-key e in
-      ⊎-elim (λ on. (on .0, on .1, next ∙ on .2)) (λ wrong. absurd (alive led (p + k + 1) (next ∙ wrong))) (first-on behind section k b (section ∷ sections))
+      let next = goes led (p + k) (Key section behind k) not-key e in
+      ⊎-elim (λ on. (on .0, on .1, next ∙ on .2)) (λ wrong. absurd (alive led (p + k + 1) (next ∙ wrong)))
+      (first-on behind section k b (section ∷ sections))
 
-  -- one byte more of a key stands, which has as many bytes as stand of another
+  -- so one byte more of that key stands
   begun-more : (section : Section) (k : ℕ) → Begun s p (keyOf section) k → (on : Goes behind section k (byteAt s (p + k)) (stateAt s (p + k + 1)))
       → Begun s p (keyOf (on .0)) (suc k)
   begun-more section k begun on =
-      rw (← add-one k) (below-more (λ (i : ℕ). byteAt s (p + i) ≡ byteAt (keyOf (on .0)) i) k (λ i h. begun i h ∙ on .1 .same i h) (sym (on .1 .byte)))
+      rw (← add-one k)
+      (below-more (λ (i : ℕ). byteAt s (p + i) ≡ byteAt (keyOf (on .0)) i) k (λ i h. begun i h ∙ on .1 .same i h) (sym (on .1 .byte)))
 
   -- a key can be read wherever some bytes of one stand and fewer than `left` bytes are left
-  key-from : (left k : ℕ) (section : Section) → length s < p + k + left → Begun s p (keyOf section) k → stateAt s (p + k) ≡ Key behind section k
+  key-from : (left k : ℕ) (section : Section) → length s < p + k + left → Begun s p (keyOf section) k → stateAt s (p + k) ≡ Key section behind k
       → KeyFrom s behind p
-  key-from zero k section h begun e = let inText = within led (p + k) (Key behind section k) not-key e in absurd (omega arith)
+  key-from zero k section h begun e = let inText = within led (p + k) (Key section behind k) not-key e in absurd (omega arith)
   key-from (suc left) k section h begun e =
       let on = key-goes section k e in
       let other = on .0 in
@@ -66,7 +68,7 @@ module _ {s : List ℕ} (led : LeadsToEnd s) (behind : Behind) (p : ℕ) where
       (forks led (p + suc k) (ltb (suc k) (widthOf other)) _ _ at)
 
   -- where no byte of a key stands yet one can be read
-  pub read-key : (section : Section) → stateAt s p ≡ Key behind section 0 → KeyFrom s behind p
+  pub read-key : (section : Section) → stateAt s p ≡ Key section behind 0 → KeyFrom s behind p
   read-key section e =
       let place : p ≡ p + 0 = omega arith in
-      key-from (length s + 1) 0 section (omega arith) (λ i h. absurd (omega arith)) (subst (λ (q : ℕ). stateAt s q ≡ Key behind section 0) place e)
+      key-from (length s + 1) 0 section (omega arith) (λ i h. absurd (omega arith)) (subst (λ (q : ℕ). stateAt s q ≡ Key section behind 0) place e)

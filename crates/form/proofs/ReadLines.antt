@@ -72,7 +72,8 @@ module _ {s : List ℕ} (led : LeadsToEnd s) where
         ⊎-elim
         (λ on.
         let same : other ≡ section = sym (same-order (eqb-true (order section) (order other) on)) in
-        let at : stateAt s (p + widthOf section) ≡ valueOf section = subst (λ (x : Section). stateAt s (p + widthOf x) ≡ valueOf x) same (here .value) in
+        let at : stateAt s (p + widthOf section) ≡ valueOf section =
+        subst (λ (x : Section). stateAt s (p + widthOf x) ≡ valueOf x) same (here .value) in
         let value = read-value (p + widthOf section) (at ∙ valued) in
         let forward = value .2 in
         another-line p (subst (λ (x : Section). Says s p (keyOf x)) same (here .said)) value

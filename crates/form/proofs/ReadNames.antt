@@ -81,7 +81,8 @@ module _ {s : List ℕ} (led : LeadsToEnd s) where
       (name-step section opened n i e)
 
   -- a name can be read behind its first letter
-  pub read-name : (section : Section) (opened p : ℕ) → letter (byteAt s p) ≡ true → stateAt s (p + 1) ≡ Name section 1 opened → NameFrom s section opened p
+  pub read-name : (section : Section) (opened p : ℕ) → letter (byteAt s p) ≡ true → stateAt s (p + 1) ≡ Name section 1 opened
+      → NameFrom s section opened p
   read-name section opened p l e = rest-of-name mostNameBytes section opened p 0 (lit≤ tt) (lit≤ tt) l (named-one p l) e
 
   -- ---- lists of names

@@ -5,9 +5,13 @@ use mathlib.Core.List.{List, [], _∷_, _++_}
 use Prim.Native.Nat.{ℕ, zero, suc, _+_, _<_, _≤_}
 use native.Mathlib.Numerals.{add-one}
 use native.Mathlib.Omega.{arith}
+use lib.Dec.{ltb}
 use lib.ListN.{length, take}
 use lib.Seq.{take-all}
-use Rattle.rules.specs.Signs.{byteAt}
+use borrow.Author.Tests.{ltb-true}
+use Rattle.rules.specs.Lists.{every}
+use Rattle.rules.specs.Signs.{byteAt, Says, says-all, says-byte}
+use Rattle.rules.proofs.Lists.{and-parts}
 use Rattle.rules.proofs.Signs.{inside}
 use Rattle.form.specs.declared.machine.State.{State}
 use Rattle.form.specs.declared.machine.State.the-variants.{Done, Wrong}
@@ -62,6 +66,16 @@ state-next s p h = rw (add-one p) (run-next begin s p h)
 -- so too a byte that is known and not 0, wherever it stands
 pub state-by : (s : List ℕ) (p b : ℕ) (state : State) → stateAt s p ≡ state → byteAt s p ≡ b → 0 < b → stateAt s (p + 1) ≡ step state b
 state-by s p b state e f h = state-next s p (inside s p (λ (z : byteAt s p ≡ 0). omega arith)) ∙ rw (e, f)
+
+-- so too bytes that stand somewhere, none of them 0
+pub state-said : {s bytes : List ℕ} {p : ℕ} → Says s p bytes → every (ltb 0) bytes ≡ true → stateAt s (p + length bytes) ≡ run (stateAt s p) bytes
+unfolding run every
+state-said {s} (says-all {p}) h = let place : p + 0 ≡ p = omega arith in rw place
+state-said {s} (says-byte {p} {b} {bytes} e more) h =
+    let some = and-parts (ltb 0 b) (every (ltb 0) bytes) h in
+    let place : p + suc (length bytes) ≡ suc p + length bytes = omega arith in
+    let next : stateAt s (suc p) ≡ step (stateAt s p) b = rw (← add-one p) (state-by s p b (stateAt s p) refl e (ltb-true 0 b (some .0))) in
+    rw place (state-said more (some .1) ∙ ap (λ (state : State). run state bytes) next)
 
 -- past the end stands the state behind the whole text
 pub state-all : (s : List ℕ) (p : ℕ) → length s ≤ p → stateAt s p ≡ run begin s

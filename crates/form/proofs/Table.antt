@@ -13,7 +13,7 @@ use Rattle.rules.proofs.Lists.{every-in}
 use Rattle.naming.specs.declared.sections.Section.{Section}
 use Rattle.naming.specs.declared.sections.Section.the-variants.{Columns, Forbid, Need, End}
 use Rattle.form.specs.declared.order.Behind.the-variants.{Nothing, Line}
-use Rattle.form.specs.Order.{sections, follows}
+use Rattle.form.specs.Order.{sections, follows, likely}
 
 -- ---- all sections
 
@@ -95,6 +95,12 @@ unfolding every
 later-may before section h =
     then-holds (ltb (order before) (order section)) _
     (each-pair (λ a b. whenever (ltb (order a) (order b)) (follows (Line a) b)) refl before section) (lt-ltb (order before) (order section) h)
+
+-- where the end line may follow, so may the likely one
+pub likely-may : (before : Section) → follows (Line before) End ≡ true → follows (Line before) (likely before) ≡ true
+unfolding every
+likely-may before h =
+    then-holds (follows (Line before) End) _ (each (λ a. whenever (follows (Line a) End) (follows (Line a) (likely a))) refl before) h
 
 -- the end is the last section
 pub end-last : (section : Section) → order End ≤ order section → section ≡ End

@@ -2,13 +2,10 @@
 use mathlib.Core.Path.{_≡_, refl, sym, ap, subst, _∙_}
 use mathlib.Core.Bool.{Bool, true, false, cond}
 use mathlib.Core.List.{List}
-use mathlib.Core.List.List·Memᴰ.{List·Memᴰ·tail}
 use Prim.Native.Nat.{ℕ, zero, suc, _+_, _-_, _<_, _≤_}
-use native.Mathlib.Numerals.{add-one}
 use native.Mathlib.Omega.{arith}
 use lib.Dec.{ltb, eqb, lit<, lit≤}
 use lib.ListN.{length}
-use borrow.Author.Count.{below-more}
 use borrow.Author.Tests.{lt-ltb, ne-eqb, eqb-true, eqb-false}
 use Rattle.rules.specs.Signs.{byteAt, lineEnd, comma, plus, ampersand, bar, bracketOpen, bracketClose, Says, letter, digit, inName}
 use Rattle.rules.specs.Names.{Name as NameAt, Names, Spot, last-name, more-names, mostNameBytes}
@@ -27,12 +24,13 @@ use Rattle.form.specs.declared.machine.Digits.{Digits}
 use Rattle.form.specs.declared.machine.Digits.the-variants.{None, Zero, Other, Two}
 use Rattle.form.specs.declared.machine.State.{State}
 use Rattle.form.specs.declared.machine.State.the-variants.{Key, Name, Closed, Number, Done, Wrong}
-use Rattle.form.specs.Order.{follows}
-use Rattle.form.specs.Machine.{valueOf, newLine, onward, joining, behindItem, onDigit, numberEnding, step, begin, run, stateAt}
-use Rattle.form.proofs.Table.{order, same-order, listed, later-may}
-use Rattle.form.proofs.KeyLaws.{SameTo, key-byte, said-begun, apart, inside-both, first-found, onward-key, onward-value}
+use Rattle.form.specs.Order.{follows, likely}
+use Rattle.form.specs.Machine.{valueOf, newLine, joining, behindItem, onDigit, numberEnding, step, begin, run, stateAt}
+use Rattle.form.proofs.Table.{order, same-order, later-may}
+use Rattle.form.proofs.KeyLaws.{key-bytes}
 use Rattle.form.proofs.Signs.{digit-not, line-over}
-use Rattle.form.proofs.Runs.{cond-holds, cond-fails, state-next, state-by, state-all}
+use Rattle.form.proofs.Runs.{cond-holds, cond-fails, state-next, state-by, state-said, state-all}
+use Rattle.form.proofs.RunKeys.{run-key}
 
 module _ (s : List ℕ) where
   state-from : (p : ℕ) (state : State) → p < length s → stateAt s p ≡ state → stateAt s (p + 1) ≡ step state (byteAt s p)
@@ -40,46 +38,14 @@ module _ (s : List ℕ) where
 
   -- ---- keys
 
-  -- a key stands that may stand there
-  module _ (behind : Behind) (section : Section) (p : ℕ) (may : follows behind section ≡ true) (said : Says s p (keyOf section)) where
-    -- k bytes of a key stand that begins alike: the next byte is one of a key that goes on alike
-    key-next : (other : Section) (k : ℕ) → k < widthOf section → SameTo other section k → stateAt s (p + k) ≡ Key behind other k
-        → (one : Section) × SameTo one section (suc k) × (stateAt s (p + suc k) ≡ onward behind one (suc k))
-    key-next other k h same e =
-        let b = byteAt (keyOf section) k in
-        let place : p + k + 1 ≡ p + suc k = omega arith in
-        let found = first-found behind other k b section (record { byte = refl; may = may; same = same }) (List·Memᴰ·tail (listed section)) in
-        let one = found .0 in
-        let on : stateAt s (p + k + 1) ≡ onward behind one (suc k) =
-        state-by s (p + k) b (Key behind other k) e (said-begun said k h) (key-byte section k h) ∙ found .2 in (
-          one,
-          rw (← add-one k) (below-more (λ (i : ℕ). byteAt (keyOf one) i ≡ byteAt (keyOf section) i) k
-              (λ i l. sym (found .1 .same i l) ∙ same i l) (found .1 .byte)),
-          subst (λ (q : ℕ). stateAt s q ≡ onward behind one (suc k)) place on,
-        )
-
-    key-rest : (left : ℕ) (other : Section) (k : ℕ) → suc k + left ≡ widthOf section → SameTo other section k → stateAt s (p + k) ≡ Key behind other k
-        → stateAt s (p + widthOf section) ≡ valueOf section
-    key-rest zero other k h same e =
-        let next = key-next other k (omega arith) same e in
-        let one = next .0 in
-        let whole : suc k ≡ widthOf section = omega arith in
-        let is : one ≡ section = sym (apart section one (λ i l. sym (next .1 i (omega arith)))) in
-        subst (λ (k : ℕ). stateAt s (p + k) ≡ valueOf section) whole
-        (next .2 ∙ ap (λ (x : Section). onward behind x (suc k)) is ∙ onward-value behind section (suc k) (omega arith))
-    key-rest (suc left) other k h same e =
-        let next = key-next other k (omega arith) same e in
-        let one = next .0 in
-        let fits = inside-both section one (suc k) (λ i l. sym (next .1 i l)) (omega arith) in
-        key-rest left one (suc k) (omega arith) (next .1) (next .2 ∙ onward-key behind one (suc k) fits)
-
-    -- it leads to its value
-    key-walk : (other : Section) → stateAt s p ≡ Key behind other 0 → stateAt s (p + widthOf section) ≡ valueOf section
-    key-walk other e =
-        let place : p ≡ p + 0 = omega arith in
-        let some = width-bounds section in
-        key-rest (widthOf section - 1) other 0 (omega arith) (λ i h. absurd (omega arith))
-        (subst (λ (q : ℕ). stateAt s q ≡ Key behind other 0) place e)
+  -- a key that may stand behind this leads to its value
+  key-walk : (behind : Behind) (section : Section) (p : ℕ) → follows behind section ≡ true → Says s p (keyOf section)
+      → (other : Section) → stateAt s p ≡ Key other behind 0 → stateAt s (p + widthOf section) ≡ valueOf section
+  key-walk behind section p may said other e =
+      let some = width-bounds section in
+      state-said said (key-bytes section)
+      ∙ ap (λ (state : State). run state (keyOf section)) e
+      ∙ run-key behind section may (widthOf section - 1) other 0 (omega arith) (λ i h. absurd (omega arith))
 
   -- ---- names
 
@@ -87,7 +53,8 @@ module _ (s : List ℕ) where
   abbrev Passed : Section → ℕ → ℕ → Type 0
   Passed section opened q = q < length s → stateAt s (q + 1) ≡ behindItem section opened (byteAt s q)
 
-  behind-by : (section : Section) (opened q b : ℕ) → Passed section opened q → byteAt s q ≡ b → 0 < b → stateAt s (q + 1) ≡ behindItem section opened b
+  behind-by : (section : Section) (opened q b : ℕ) → Passed section opened q → byteAt s q ≡ b → 0 < b
+      → stateAt s (q + 1) ≡ behindItem section opened b
   behind-by section opened q b h e g =
       h (inside s q (λ (z : byteAt s q ≡ 0). omega arith)) ∙ ap (behindItem section opened) e
 
@@ -182,7 +149,7 @@ module _ (s : List ℕ) where
     lines-walk (no-line none) here = here
     lines-walk (one-line {p} {r} {q} {a} said value ended more) here =
         let before = here .before in
-        let valueAt = key-walk (BehindLine before) section p (may-come before (here .early)) said End (here .at) ∙ valued in
+        let valueAt = key-walk (BehindLine before) section p (may-come before (here .early)) said (likely before) (here .at) ∙ valued in
         let passed = value-walk (p + widthOf section) r a value valueAt in
         lines-walk more
         (record { before = section; early = omega arith; at = behind-by section 0 r lineEnd passed ended (lit< tt) ∙ line-over section })
@@ -228,7 +195,7 @@ module _ (s : List ℕ) where
       let needs = lines-walk Need (Stands s (list ors) mostBrackets) refl refl (λ p q v stands e. stands-walk 0 (lit≤ tt) stands e)
       (t .needs) (record { before = forbids .before; early = omega (arith, forbids .early); at = forbids .at }) in
       let may = later-may (needs .before) End (needs .early) in
-      let number = key-walk (BehindLine (needs .before)) End (t .endFrom) may (t .endSaid) End (needs .at) in
+      let number = key-walk (BehindLine (needs .before)) End (t .endFrom) may (t .endSaid) (likely (needs .before)) (needs .at) in
       let done = number-walk (t .number) number (t .numberEnd) in
       let whole = t .whole in
       sym (state-all s (t .numberTo + 1) (omega arith)) ∙ done

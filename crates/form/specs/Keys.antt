@@ -13,6 +13,6 @@ unfoldable pub alike : Section → Section → ℕ → Bool
 alike one other zero = true
 alike one other (suc k) = eqb (byteAt (keyOf one) k) (byteAt (keyOf other) k) && alike one other k
 
--- the other key goes on with the byte, may stand behind this, and begins with the k bytes of the section's key that stand there
+-- the other key may stand behind this, goes on with the byte, and begins with the k bytes of the section's key that stand there
 abbrev pub goesOn : Behind → Section → ℕ → ℕ → Section → Bool
-goesOn behind section k b other = eqb b (byteAt (keyOf other) k) && (follows behind other && alike section other k)
+goesOn behind section k b other = follows behind other && (eqb b (byteAt (keyOf other) k) && alike section other k)

@@ -19,7 +19,7 @@ use Rattle.form.specs.declared.machine.Digits.{Digits}
 use Rattle.form.specs.declared.machine.Digits.the-variants.{None, Zero, Other, Two}
 use Rattle.form.specs.declared.machine.State.{State}
 use Rattle.form.specs.declared.machine.State.the-variants.{Key, Name, Closed, Number, Done, Wrong}
-use Rattle.form.specs.Order.{sections, follows}
+use Rattle.form.specs.Order.{sections, follows, likely}
 use Rattle.form.specs.Keys.{goesOn}
 
 -- ---- keys
@@ -33,7 +33,7 @@ valueOf End = Number None
 
 -- k bytes of a section's key stand: another one must come, or what stands behind the key
 abbrev pub onward : Behind → Section → ℕ → State
-onward behind section k = cond (ltb k (widthOf section)) (Key behind section k) (valueOf section)
+onward behind section k = cond (ltb k (widthOf section)) (Key section behind k) (valueOf section)
 
 -- k bytes of a section's key stand, and b comes: it is a byte of the first of these keys that goes on with it
 unfoldable pub firstOn : Behind → Section → ℕ → ℕ → List Section → State
@@ -45,9 +45,9 @@ firstOn behind section k b (other ∷ others) =
 abbrev pub inKey : Behind → Section → ℕ → ℕ → State
 inKey behind section k b = firstOn behind section k b (section ∷ sections)
 
--- a line begins behind one of this section: no byte of a key stands. The end line is one that may follow
+-- a line begins behind one of this section: no byte of a key stands
 abbrev pub newLine : Section → State
-newLine section = Key (Line section) End 0
+newLine section = Key (likely section) (Line section) 0
 
 -- ---- values
 
@@ -115,7 +115,7 @@ inNumber digits b = cond (eqb b lineEnd) (numberEnding digits) (cond (digit b) (
 
 -- the state behind one more byte
 abbrev pub step : State → ℕ → State
-step (Key behind section k) b = inKey behind section k b
+step (Key section behind k) b = inKey behind section k b
 step (Name section count opened) b = nameOn section count opened b
 step (Closed opened) b = behindItem Need opened b
 step (Number digits) b = inNumber digits b
@@ -124,7 +124,7 @@ step Wrong b = Wrong
 
 -- what holds of every state of a text: the key may stand there and fewer of its bytes stand than it has; the end line may follow a line of names
 abbrev pub Possible : State → Type 0
-Possible (Key behind section k) = (follows behind section ≡ true) × (k < widthOf section)
+Possible (Key section behind k) = (follows behind section ≡ true) × (k < widthOf section)
 Possible (Name section count opened) = follows (Line section) End ≡ true
 Possible (Closed opened) = Unit {0}
 Possible (Number digits) = Unit {0}
@@ -133,7 +133,7 @@ Possible Wrong = Unit {0}
 
 -- the state where the text begins: columns=
 abbrev pub begin : State
-begin = Key Nothing Columns 0
+begin = Key Columns Nothing 0
 
 -- the state behind all these bytes
 unfoldable pub run : State → List ℕ → State

@@ -24,3 +24,10 @@ follows (Line Columns) section = row false true true true section
 follows (Line Forbid) section = row false true true true section
 follows (Line Need) section = row false false true true section
 follows (Line End) section = row false false false false section
+
+-- the section whose key is tried first behind a line of this one: one that may follow, and often does
+abbrev pub likely : Section → Section
+likely Columns = Forbid
+likely Forbid = Forbid
+likely Need = Need
+likely End = End

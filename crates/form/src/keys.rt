@@ -6,15 +6,15 @@ use naming::sections::key_byte;
 ghost use mathlib.Core.Path.{_≡_};
 ghost use Rattle.form.specs.Keys.{alike as beginAlike, goesOn};
 
-// Whether the key of the other section begins with the k bytes of the section's key that stand behind this, may stand there too, and goes on
-// with the byte.
+// Whether the key of the other section may stand behind this, goes on with the byte, and begins with the k bytes of the section's key that stand
+// there.
 pub fn goes_on(behind: Behind, section: Section, k: usize, byte: u8, other: Section) -> bool
     ensures { λ r. ⌜ r ≡ goesOn behind section k byte other ⌝ }
 {
-    if byte != key_byte(other, k) {
+    if !follows(behind, other) {
         return false;
     }
-    if !follows(behind, other) {
+    if byte != key_byte(other, k) {
         return false;
     }
     alike(section, other, k)

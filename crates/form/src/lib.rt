@@ -19,7 +19,7 @@ pub enum Formed {
 pub fn form(text: &[u8]) -> Formed
     ensures { λ r. ⌜ Told (now (text .entry)) r ⌝ }
 {
-    let mut state = State::Key(Behind::Nothing, Section::Columns, 0);
+    let mut state = State::Key(Section::Columns, Behind::Nothing, 0);
     let mut i = 0;
     while i < text.len() {
         state = machine::step(state, text[i]);

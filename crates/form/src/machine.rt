@@ -3,6 +3,7 @@
 use crate::keys::goes_on;
 use crate::order::Behind;
 use crate::order::SECTIONS;
+use crate::order::likely;
 use crate::order::section_at;
 use naming::sections::Section;
 use naming::sections::key_byte;
@@ -31,7 +32,7 @@ pub enum Digits {
 
 pub enum State {
     // behind this, so many bytes of a key stand: of this section's, and of every other that begins alike and may stand here
-    Key(Behind, Section, usize),
+    Key(Section, Behind, usize),
     Name(Section, usize, usize), // section, bytes of a name that stand, open brackets. With 0 bytes a name or a bracket must come
     Closed(usize), // a closing bracket stands; brackets still open
     Number(Digits), // what stands of the end line's number
@@ -45,7 +46,7 @@ pub fn step(state: State, byte: u8) -> State
     ensures { λ r. ⌜ r ≡ stepped state byte ⌝ }
 {
     match state {
-        State::Key(behind, section, k) => in_key(behind, section, k, byte),
+        State::Key(section, behind, k) => in_key(behind, section, k, byte),
         State::Name(section, count, opened) => name_on(section, count, opened, byte),
         State::Closed(opened) => behind_item(Section::Need, opened, byte),
         State::Number(digits) => in_number(digits, byte),
@@ -86,7 +87,7 @@ fn onward(behind: Behind, section: Section, k: usize) -> State
     ensures { λ r. ⌜ r ≡ onwardIn behind section k ⌝ }
 {
     if k < width(section) {
-        State::Key(behind, section, k)
+        State::Key(section, behind, k)
     } else {
         value(section)
     }
@@ -139,8 +140,7 @@ fn at_item(section: Section, opened: usize, byte: u8) -> State
     State::Wrong
 }
 
-// A name or a closing bracket has ended. Outside needs no bracket is ever open, so none can be closed there. Behind a line's end no byte of a key
-// stands; the end line is one that may always follow.
+// A name or a closing bracket has ended. Outside needs no bracket is ever open, so none can be closed there.
 fn behind_item(section: Section, opened: usize, byte: u8) -> State
     ensures { λ r. ⌜ r ≡ behindItem section opened byte ⌝ }
 {
@@ -156,7 +156,7 @@ fn behind_item(section: Section, opened: usize, byte: u8) -> State
     }
     if byte == LINE_END {
         return if opened == 0 {
-            State::Key(Behind::Line(section), Section::End, 0)
+            State::Key(likely(section), Behind::Line(section), 0)
         } else {
             State::Wrong
         };

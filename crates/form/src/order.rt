@@ -3,7 +3,7 @@ use naming::sections::Section;
 ghost use mathlib.Core.Path.{_≡_};
 ghost use lib.ListN.{getD};
 ghost use Rattle.naming.specs.declared.sections.Section.the-variants.{End};
-ghost use Rattle.form.specs.Order.{sections, row as rowOf, follows as mayFollow};
+ghost use Rattle.form.specs.Order.{sections, row as rowOf, follows as mayFollow, likely as likelyBehind};
 
 // What stands before a line.
 pub enum Behind {
@@ -37,6 +37,18 @@ pub fn follows(behind: Behind, section: Section) -> bool
             Section::Need => row(false, false, true, true, section),
             Section::End => row(false, false, false, false, section),
         },
+    }
+}
+
+// The section whose key is tried first behind a line of this one: one that may follow, and often does.
+pub fn likely(before: Section) -> Section
+    ensures { λ r. ⌜ r ≡ likelyBehind before ⌝ }
+{
+    match before {
+        Section::Columns => Section::Forbid,
+        Section::Forbid => Section::Forbid,
+        Section::Need => Section::Need,
+        Section::End => Section::End,
     }
 }
 

@@ -13,9 +13,13 @@ use Rattle.form.proofs.machine.behind_item.Tie as tie
 use Rattle.form.proofs.machine.behind_item.Reads as reads
 use Rattle.form.proofs.machine.behind_item.Lts as lts
 use Rattle.form.proofs.machine.joins.Reads as joins-reads
+use Rattle.form.proofs.order.likely.Reads as likely-reads
+
+abbrev claims : lts.Claims
+claims = (joins-reads.Asked, joins-reads.Learnt, likely-reads.Asked, likely-reads.Learnt)
 
 -- what a byte that joins nothing leads to
-unjoined : (u : lts.Else1 (joins-reads.Asked, joins-reads.Learnt) reads.Pre reads.Post) → let a = u .before .before .args in
+unjoined : (u : lts.Else1 claims reads.Pre reads.Post) → let a = u .before .before .args in
     behindItem (a .section) (a .opened) (a .byte)
     ≡ cond (eqb (a .byte) bracketClose) (closing (a .opened)) (cond (eqb (a .byte) lineEnd) (lineEnding (a .section) (a .opened)) Wrong)
 unjoined u = rw (sym (u .before .joins .ensures), u .if1 .left)
@@ -39,14 +43,19 @@ returns-3 c =
     let a = c .before .before .before .before .args in
     rw (unjoined (c .before .before), eq-eqb (a .byte) bracketClose (c .before .if2 .taken), closing-one (a .opened) (c .if3 .left))
 
+likely-requires : tie.Need-likely-requires
+likely-requires c κs = search needs
+
 returns-4 : tie.Need-returns-4
 returns-4 c =
-    let a = c .before .before .before .before .before .args in
+    let e = c .before in
+    let a = e .before .before .before .before .before .args in
     rw (
-      unjoined (c .before .before .before),
-      ne-eqb (a .byte) bracketClose (c .before .before .if2 .left),
-      eq-eqb (a .byte) lineEnd (c .before .if4 .taken),
-      ending-closed (a .section) (a .opened) (c .if5 .taken),
+      unjoined (e .before .before .before),
+      ne-eqb (a .byte) bracketClose (e .before .before .if2 .left),
+      eq-eqb (a .byte) lineEnd (e .before .if4 .taken),
+      ending-closed (a .section) (a .opened) (e .if5 .taken),
+      c .likely .ensures,
     )
 
 returns-5 : tie.Need-returns-5
@@ -65,4 +74,4 @@ returns-6 c =
     rw (unjoined (c .before .before), ne-eqb b bracketClose (c .before .if2 .left), ne-eqb b lineEnd (c .if4 .left))
 
 pub behind-item-spec : {M : Type 1} → statement M
-behind-item-spec = tie.close (tie.spec joins-requires returns sub-t8 returns-2 returns-3 returns-4 returns-5 returns-6)
+behind-item-spec = tie.close (tie.spec joins-requires returns sub-t8 returns-2 returns-3 likely-requires returns-4 returns-5 returns-6)

@@ -1,5 +1,6 @@
 -- `form::machine::first_on` meets its contract. The loop's invariant: none of the sections passed goes on. Assumes nothing.
 use mathlib.Core.Path.{_≡_, refl, sym, ap, _∙_}
+use mathlib.Core.Bool.{true, false}
 use Prim.Native.Nat.{ℕ, _-_, _≤_}
 use native.Mathlib.Omega.{arith}
 use lib.Dec.{lit≤}
@@ -8,13 +9,15 @@ use borrow.Author.Needs.{needs}
 use Rattle.naming.proofs.KeyPlaces.{width-bounds}
 use Rattle.naming.specs.declared.sections.Section.the-variants.{End}
 use Rattle.form.specs.Order.{sections}
+use Rattle.form.specs.Keys.{goesOn}
 use Rattle.form.specs.Machine.{firstOn}
 use Rattle.form.proofs.KeyLaws.{first-here, first-next}
 use Rattle.form.proofs.machine.first_on.Statement.{statement}
 use Rattle.form.proofs.machine.first_on.Tie as tie
 
 abbrev Inv-loop : tie.InvT-loop
-Inv-loop behind section k byte i₀ i = (i ≤ length sections) × (firstOn behind section k byte sections ≡ firstOn behind section k byte (drop i sections))
+Inv-loop behind section k byte i₀ i =
+    (i ≤ length sections) × (firstOn behind section k byte sections ≡ firstOn behind section k byte (drop i sections))
 
 abbrev μ-loop : tie.MeasureT-loop
 μ-loop behind section k byte i₀ i = length sections - i
@@ -39,13 +42,13 @@ returns c =
     let on = c .before .before in
     let turn = on .before .before in
     let a = turn .before .before .args in
-    let goes = sym (on .goes-on .ensures) ∙ c .before .if1 .taken in
     let other = on .before .section-at in
+    let goes : goesOn (a .behind) (a .section) (a .k) (a .byte) (other .result) ≡ true = rw (← on .goes-on .ensures) (c .before .if1 .taken) in
     c .onward .ensures
     ∙ sym
     (turn .before .loop .inv .1
-    ∙ first-here (a .behind) (a .section) (a .k) (a .byte) sections (turn .before .loop .i) End (other .result) (turn .loop-test .taken) (other .ensures)
-    goes)
+    ∙ first-here (a .behind) (a .section) (a .k) (a .byte) sections (turn .before .loop .i) End (other .result) (turn .loop-test .taken)
+    (other .ensures) goes)
 
 add-i : tie.Need-add-i Inv-loop μ-loop
 add-i c = search needs
@@ -58,8 +61,8 @@ loop-again c =
     let on = c .before in
     let turn = on .before .before in
     let a = turn .before .before .args in
-    let stays = sym (on .goes-on .ensures) ∙ c .if1 .left in
-    let other = on .before .section-at in (
+    let other = on .before .section-at in
+    let stays : goesOn (a .behind) (a .section) (a .k) (a .byte) (other .result) ≡ false = rw (← on .goes-on .ensures) (c .if1 .left) in (
       omega arith,
       turn .before .loop .inv .1
           ∙ first-next (a .behind) (a .section) (a .k) (a .byte) sections (turn .before .loop .i) End (other .result) (turn .loop-test .taken)

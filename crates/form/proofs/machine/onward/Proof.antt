@@ -12,10 +12,15 @@ value-requires : tie.Need-value-requires
 value-requires c κs = search needs
 
 returns : tie.Need-returns
-returns c = sym (onward-key (c .before .before .args .behind) (c .before .before .args .section) (c .before .before .args .k) (rw (← c .before .width .ensures) (c .if1 .taken)))
+returns c =
+    let a = c .before .before .args in
+    sym (onward-key (a .behind) (a .section) (a .k) (rw (← c .before .width .ensures) (c .if1 .taken)))
 
 returns-2 : tie.Need-returns-2
-returns-2 c = c .value .ensures ∙ sym (onward-value (c .before .before .before .args .behind) (c .before .before .before .args .section) (c .before .before .before .args .k) (rw (← c .before .before .width .ensures) (c .before .if1 .left)))
+returns-2 c =
+    let w = c .before .before in
+    let a = w .before .args in
+    c .value .ensures ∙ sym (onward-value (a .behind) (a .section) (a .k) (rw (← w .width .ensures) (c .before .if1 .left)))
 
 pub onward-spec : {M : Type 1} → statement M
 onward-spec = tie.close (tie.spec width-requires value-requires returns returns-2)
