@@ -133,7 +133,7 @@ module _ (behind : Behind) (section : Section) (k b : ℕ) where
         same = alike-same section other k (more .1);
       }
 
-  pub goes-all : (other : Section) → GoesOn other → goesOn behind section k b other ≡ true
+  goes-all : (other : Section) → GoesOn other → goesOn behind section k b other ≡ true
   goes-all other g =
       and-both (follows behind other) _ (g .may)
       (and-both (eqb b (byteAt (keyOf other) k)) _ (eq-eqb b (byteAt (keyOf other) k) (sym (g .byte))) (same-alike section other k (g .same)))

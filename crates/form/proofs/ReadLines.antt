@@ -13,10 +13,11 @@ use Rattle.rules.specs.Texts.{Line, line, Lines, no-line, one-line, Number as N
 use Rattle.naming.specs.Sections.{keyOf, widthOf}
 use Rattle.naming.specs.declared.sections.Section.{Section}
 use Rattle.naming.proofs.KeyPlaces.{key-inside}
-use Rattle.form.specs.declared.order.Behind.the-variants.{Line as Behind}
+use Rattle.form.specs.declared.order.Behind.the-variants.{Line as BehindLine}
 use Rattle.form.specs.declared.machine.Digits.{Digits}
 use Rattle.form.specs.declared.machine.Digits.the-variants.{None, Zero, Other, Two}
 use Rattle.form.specs.declared.machine.State.the-variants.{Name, Number, Done}
+use Rattle.form.specs.Order.{likely}
 use Rattle.form.specs.Machine.{onDigit, numberEnding, valueOf, newLine, stateAt}
 use Rattle.form.proofs.Table.{order, same-order, in-order}
 use Rattle.form.proofs.KeyLaws.{one-key}
@@ -46,7 +47,7 @@ module _ {s : List ℕ} (led : LeadsToEnd s) where
   -- behind a line of a section begins one of it or of a later one
   next-line : (before : Section) (p : ℕ) → stateAt s p ≡ newLine before → LineFrom s (order before) p
   next-line before p e =
-      let key = read-key led (Behind before) p _ e in
+      let key = read-key led (BehindLine before) p (likely before) e in
       record { section = key .section; late = in-order before (key .section) (key .may); said = key .said; value = key .value }
 
   module _ {A : Type 0} (section : Section) (Value : ℕ → ℕ → A → Type 0) (valued : valueOf section ≡ Name section 0 0)

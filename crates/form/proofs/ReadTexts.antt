@@ -15,6 +15,7 @@ use Rattle.naming.specs.declared.sections.Section.the-variants.{Columns, Forbid
 use Rattle.form.specs.declared.order.Behind.the-variants.{Nothing, Line}
 use Rattle.form.specs.declared.machine.State.{State}
 use Rattle.form.specs.declared.machine.State.the-variants.{Name, Done}
+use Rattle.form.specs.Order.{likely}
 use Rattle.form.specs.Machine.{valueOf, newLine, step, run, stateAt}
 use Rattle.form.proofs.Table.{order, columns-first, columns-once, end-last}
 use Rattle.form.proofs.Runs.{state-next}
@@ -39,7 +40,7 @@ module _ {s : List ℕ} (led : LeadsToEnd s) where
   -- another line follows it
   behind-columns : (p : ℕ) → stateAt s p ≡ newLine Columns → LineFrom s (order Forbid) p
   behind-columns p e =
-      let key = read-key led (Line Columns) p _ e in
+      let key = read-key led (Line Columns) p (likely Columns) e in
       record { section = key .section; late = columns-once (key .section) (key .may); said = key .said; value = key .value }
 
   read-forbid : (p : ℕ) → stateAt s p ≡ Name Forbid 0 0 → ValueFrom s Forbid (Names s plus) p

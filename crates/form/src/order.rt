@@ -11,6 +11,7 @@ pub enum Behind {
     Line(Section), // a line of this section
 }
 
+// How many sections there are.
 pub const SECTIONS: usize = 4;
 
 // The section at a place of the order.

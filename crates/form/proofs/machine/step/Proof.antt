@@ -46,10 +46,10 @@ returns-4 : tie.Need-returns-4
 returns-4 c = rw (c .before .before .state4 .given .1) (c .in-number .ensures)
 
 returns-5 : tie.Need-returns-5
-returns-5 c = search needs
+returns-5 c = rw (c .enum-told .given .1)
 
 returns-6 : tie.Need-returns-6
-returns-6 c = search needs
+returns-6 c = rw (c .enum-told2 .given .1)
 
 pub step-spec : {M : Type 1} → statement M
 step-spec =
