@@ -19,7 +19,7 @@ use Rattle.form.specs.declared.machine.State.{State}
 use Rattle.form.specs.declared.machine.State.the-variants.{Key, Name, Closed, Number, Done, Wrong}
 use Rattle.form.specs.Order.{follows, likely}
 use Rattle.form.specs.Machine.{valueOf, newLine, step, Possible, run}
-use Rattle.form.proofs.KeyLaws.{SameTo}
+use Rattle.naming.proofs.KeysApart.{SameTo}
 use Rattle.form.proofs.Signs.{line-over, bracket-over}
 use Rattle.form.proofs.Runs.{run-append}
 use Rattle.form.proofs.RunKeys.{run-key}

@@ -5,71 +5,25 @@ use mathlib.Core.Bool.{Bool, true, false, cond, _&&_, true≢false}
 use mathlib.Core.List.{List, [], _∷_, List·Memᴰ}
 use mathlib.Core.List.List·Memᴰ.{List·Memᴰ·head, List·Memᴰ·tail}
 use Prim.Native.Nat.{ℕ, zero, suc, _+_, _-_, _<_, _≤_}
-use native.Mathlib.Nat.{lt-of-not-le}
 use native.Mathlib.Numerals.{add-one}
 use native.Mathlib.Omega.{arith}
-use lib.Dec.{ltb, leb, eqb}
+use lib.Dec.{eqb}
 use lib.ListN.{length, getD, drop}
 use lib.Seq.{drop-cons}
-use borrow.Author.Count.{below-more}
-use borrow.Author.Tests.{lt-ltb, le-ltb, leb-true, leb-false, eqb-true, eq-eqb, ne-eqb}
-use Rattle.rules.specs.Lists.{every}
-use Rattle.rules.specs.Signs.{byteAt, Says, says-all, says-byte}
+use borrow.Author.Tests.{lt-ltb, le-ltb, eqb-true, eq-eqb, ne-eqb}
+use Rattle.rules.specs.Signs.{byteAt}
 use Rattle.rules.proofs.Lists.{not-holds, and-parts, and-both}
-use Rattle.naming.specs.Sections.{keyOf, widthOf}
+use Rattle.naming.specs.Sections.{keyOf, widthOf, sections, alike}
 use Rattle.naming.specs.declared.sections.Section.{Section}
 use Rattle.form.specs.declared.order.Behind.{Behind}
 use Rattle.form.specs.declared.machine.State.{State}
 use Rattle.form.specs.declared.machine.State.the-variants.{Key, Wrong}
-use Rattle.form.specs.Order.{sections, follows}
-use Rattle.form.specs.Keys.{alike, goesOn}
+use Rattle.form.specs.Order.{follows}
+use Rattle.form.specs.Keys.{goesOn}
 use Rattle.form.specs.Machine.{valueOf, onward, firstOn, inKey}
-use Rattle.form.proofs.Table.{order, same-order, each, each-pair, whenever, then-holds}
-
--- ---- bytes of keys
-
--- no byte of a key is 0
-pub key-bytes : (section : Section) → every (ltb 0) (keyOf section) ≡ true
-unfolding every
-key-bytes section = each (λ a. every (ltb 0) (keyOf a)) refl section
-
--- k bytes stand from place p on that are the first ones of these
-abbrev pub Begun : List ℕ → ℕ → List ℕ → ℕ → Type 0
-Begun s p bytes k = (i : ℕ) → i < k → byteAt s (p + i) ≡ byteAt bytes i
-
--- all of them stand
-pub said-begun : {s bytes : List ℕ} {p : ℕ} → Says s p bytes → Begun s p bytes (length bytes)
-said-begun says-all i h = absurd (omega arith)
-said-begun {s} (says-byte {p} e more) zero h = let place : p + 0 ≡ p = omega arith in rw place e
-said-begun {s} (says-byte {p} e more) (suc i) h = let place : p + suc i ≡ suc p + i = omega arith in rw place (said-begun more i (omega arith))
-
-pub begun-said : (s bytes : List ℕ) (p : ℕ) → Begun s p bytes (length bytes) → Says s p bytes
-begun-said s [] p f = says-all
-begun-said s (b ∷ bytes) p f =
-    let here : p + 0 ≡ p = omega arith in
-    says-byte (rw here at (f 0 (omega arith)))
-    (begun-said s bytes (suc p) (λ i h. let place : p + suc i ≡ suc p + i = omega arith in rw place at (f (suc i) (omega arith))))
+use Rattle.naming.proofs.KeysApart.{SameTo, alike-same, same-alike}
 
 -- ---- keys that begin alike
-
--- the first k bytes of two keys are the same
-abbrev pub SameTo : Section → Section → ℕ → Type 0
-SameTo a b k = (i : ℕ) → i < k → byteAt (keyOf a) i ≡ byteAt (keyOf b) i
-
-alike-same : (a b : Section) (k : ℕ) → alike a b k ≡ true → SameTo a b k
-unfolding alike
-alike-same a b zero e = λ i h. absurd (omega arith)
-alike-same a b (suc k) e =
-    let parts = and-parts (eqb (byteAt (keyOf a) k) (byteAt (keyOf b) k)) (alike a b k) e in
-    let last = eqb-true (byteAt (keyOf a) k) (byteAt (keyOf b) k) (parts .0) in
-    rw (← add-one k) (below-more (λ (i : ℕ). byteAt (keyOf a) i ≡ byteAt (keyOf b) i) k (alike-same a b k (parts .1)) last)
-
-same-alike : (a b : Section) (k : ℕ) → SameTo a b k → alike a b k ≡ true
-unfolding alike
-same-alike a b zero f = refl
-same-alike a b (suc k) f =
-    and-both (eqb (byteAt (keyOf a) k) (byteAt (keyOf b) k)) (alike a b k) (eq-eqb (byteAt (keyOf a) k) (byteAt (keyOf b) k) (f k (omega arith)))
-    (same-alike a b k (λ i h. f i (omega arith)))
 
 -- the last of some bytes is the same, or none of the others matters
 pub alike-on : (a b : Section) (i : ℕ) → 0 < i → byteAt (keyOf a) (i - 1) ≡ byteAt (keyOf b) (i - 1) → alike a b i ≡ alike a b (i - 1)
@@ -85,34 +39,6 @@ alike-stops a b zero h n = absurd (omega arith)
 alike-stops a b (suc i) h n =
     let last : i ≡ suc i - 1 = omega arith in
     rw (ne-eqb (byteAt (keyOf a) i) (byteAt (keyOf b) i) (λ e. n (rw last at e)))
-
--- no key is the beginning of another: a key whose bytes all begin another is that one
-pub apart : (a b : Section) → SameTo a b (widthOf a) → a ≡ b
-unfolding every alike
-apart a b f =
-    same-order
-    (eqb-true (order a) (order b)
-    (then-holds (alike a b (widthOf a)) _ (each-pair (λ a b. whenever (alike a b (widthOf a)) (eqb (order a) (order b))) refl a b)
-    (same-alike a b (widthOf a) f)))
-
--- so of keys that begin alike none ends before another
-pub inside-both : (a b : Section) (k : ℕ) → SameTo a b k → k < widthOf a → k < widthOf b
-inside-both a b k f h = lt-of-not-le (λ (g : widthOf b ≤ k).
-    let same : b ≡ a = apart b a (λ i l. sym (f i (omega arith))) in
-    let width = ap widthOf same in
-    absurd (omega arith))
-
--- one key stands at a place
-pub one-key : {s : List ℕ} {p : ℕ} (a b : Section) → Says s p (keyOf a) → Says s p (keyOf b) → a ≡ b
-one-key a b one other = go (leb (widthOf a) (widthOf b)) refl
-  where
-    go : (test : Bool) → leb (widthOf a) (widthOf b) ≡ test → a ≡ b
-    go true e =
-        let h = leb-true (widthOf a) (widthOf b) e in
-        apart a b (λ i l. sym (said-begun one i l) ∙ said-begun other i (omega arith))
-    go false e =
-        let h = leb-false (widthOf a) (widthOf b) e in
-        sym (apart b a (λ i l. sym (said-begun other i l) ∙ said-begun one i (omega arith)))
 
 -- ---- one byte more
 

@@ -21,7 +21,8 @@ use Rattle.form.specs.declared.machine.Digits.{Digits}
 use Rattle.form.specs.declared.machine.Digits.the-variants.{None, Zero, Other, Two}
 use Rattle.form.specs.declared.machine.State.{State}
 use Rattle.form.specs.declared.machine.State.the-variants.{Key, Name, Closed, Number, Done, Wrong}
-use Rattle.form.specs.Order.{sections, follows, likely}
+use Rattle.naming.specs.Sections.{sections}
+use Rattle.form.specs.Order.{follows, likely}
 use Rattle.form.specs.Machine.{valueOf, onward, joining, hasBrackets, atItem, closing, lineEnding, behindItem, onDigit, numberEnding}
 use Rattle.form.specs.Machine.{inNumber, step, Possible, begin, run, stateAt}
 use Rattle.form.proofs.Table.{likely-may}

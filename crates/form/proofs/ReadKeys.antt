@@ -15,9 +15,11 @@ use Rattle.naming.specs.Sections.{keyOf, widthOf}
 use Rattle.naming.specs.declared.sections.Section.{Section}
 use Rattle.form.specs.declared.order.Behind.{Behind}
 use Rattle.form.specs.declared.machine.State.the-variants.{Key}
-use Rattle.form.specs.Order.{sections, follows}
+use Rattle.naming.specs.Sections.{sections}
+use Rattle.form.specs.Order.{follows}
 use Rattle.form.specs.Machine.{valueOf, onward, Possible, stateAt}
-use Rattle.form.proofs.KeyLaws.{Begun, Goes, begun-said, first-on, inside-both}
+use Rattle.naming.proofs.KeysApart.{Begun, begun-said, inside-both}
+use Rattle.form.proofs.KeyLaws.{Goes, first-on}
 use Rattle.form.proofs.Possible.{possible-at}
 use Rattle.form.proofs.Living.{LeadsToEnd, not-key, alive, within, goes, forks}
 

@@ -19,8 +19,9 @@ use Rattle.form.specs.declared.machine.Digits.the-variants.{None, Zero, 
 use Rattle.form.specs.declared.machine.State.the-variants.{Name, Number, Done}
 use Rattle.form.specs.Order.{likely}
 use Rattle.form.specs.Machine.{onDigit, numberEnding, valueOf, newLine, stateAt}
-use Rattle.form.proofs.Table.{order, same-order, in-order}
-use Rattle.form.proofs.KeyLaws.{one-key}
+use Rattle.naming.proofs.AllSections.{order, same-order}
+use Rattle.form.proofs.Table.{in-order}
+use Rattle.naming.proofs.KeysApart.{one-key}
 use Rattle.form.proofs.Living.{LeadsToEnd, decided, not-number, alive, goes, must, forks}
 use Rattle.form.proofs.ReadKeys.{read-key}
 use Rattle.form.proofs.ReadNames.{ValueFrom}

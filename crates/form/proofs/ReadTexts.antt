@@ -17,7 +17,8 @@ use Rattle.form.specs.declared.machine.State.{State}
 use Rattle.form.specs.declared.machine.State.the-variants.{Name, Done}
 use Rattle.form.specs.Order.{likely}
 use Rattle.form.specs.Machine.{valueOf, newLine, step, run, stateAt}
-use Rattle.form.proofs.Table.{order, columns-first, columns-once, end-last}
+use Rattle.naming.proofs.AllSections.{order}
+use Rattle.form.proofs.Table.{columns-first, columns-once, end-last}
 use Rattle.form.proofs.Runs.{state-next}
 use Rattle.form.proofs.Living.{LeadsToEnd, alive}
 use Rattle.form.proofs.ReadKeys.{read-key}

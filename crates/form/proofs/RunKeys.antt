@@ -16,8 +16,9 @@ use Rattle.form.specs.declared.machine.State.{State}
 use Rattle.form.specs.declared.machine.State.the-variants.{Key}
 use Rattle.form.specs.Order.{follows}
 use Rattle.form.specs.Machine.{valueOf, onward, step, run}
-use Rattle.form.proofs.Table.{listed}
-use Rattle.form.proofs.KeyLaws.{SameTo, Goes, first-found, apart, inside-both, onward-key, onward-value}
+use Rattle.naming.proofs.AllSections.{listed}
+use Rattle.naming.proofs.KeysApart.{SameTo, apart, inside-both}
+use Rattle.form.proofs.KeyLaws.{Goes, first-found, onward-key, onward-value}
 
 -- a section that may stand behind this
 module _ (behind : Behind) (section : Section) (may : follows behind section ≡ true) where

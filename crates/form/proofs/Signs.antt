@@ -11,9 +11,9 @@ use Rattle.rules.proofs.Lists.{or-none}
 use Rattle.naming.specs.declared.sections.Section.{Section}
 use Rattle.naming.specs.declared.sections.Section.the-variants.{Need}
 use Rattle.form.specs.declared.machine.State.the-variants.{Closed}
-use Rattle.form.specs.Order.{sections}
+use Rattle.naming.specs.Sections.{sections}
 use Rattle.form.specs.Machine.{joining, behindItem, newLine}
-use Rattle.form.proofs.Table.{each}
+use Rattle.naming.proofs.AllSections.{each}
 
 -- a digit is none of the bytes that are no digits
 pub digit-not : (b c : ℕ) → digit c ≡ false → digit b ≡ true → b ≡ c → ⊥

@@ -26,8 +26,9 @@ use Rattle.form.specs.declared.machine.State.{State}
 use Rattle.form.specs.declared.machine.State.the-variants.{Key, Name, Closed, Number, Done, Wrong}
 use Rattle.form.specs.Order.{follows, likely}
 use Rattle.form.specs.Machine.{valueOf, newLine, joining, behindItem, onDigit, numberEnding, step, begin, run, stateAt}
-use Rattle.form.proofs.Table.{order, same-order, later-may}
-use Rattle.form.proofs.KeyLaws.{key-bytes}
+use Rattle.naming.proofs.AllSections.{order, same-order}
+use Rattle.form.proofs.Table.{later-may}
+use Rattle.naming.proofs.KeysApart.{key-bytes}
 use Rattle.form.proofs.Signs.{digit-not, line-over}
 use Rattle.form.proofs.Runs.{cond-holds, cond-fails, state-next, state-by, state-said, state-all}
 use Rattle.form.proofs.RunKeys.{run-key}

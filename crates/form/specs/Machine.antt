@@ -10,7 +10,7 @@ use lib.ListN.{take}
 use Rattle.rules.specs.Signs.{letter, digit, inName, lineEnd, comma, plus, ampersand, bar, bracketOpen, bracketClose}
 use Rattle.rules.specs.Names.{mostNameBytes}
 use Rattle.rules.specs.Phrases.{mostBrackets}
-use Rattle.naming.specs.Sections.{widthOf}
+use Rattle.naming.specs.Sections.{widthOf, sections}
 use Rattle.naming.specs.declared.sections.Section.{Section}
 use Rattle.naming.specs.declared.sections.Section.the-variants.{Columns, Forbid, Need, End}
 use Rattle.form.specs.declared.order.Behind.{Behind}
@@ -19,7 +19,7 @@ use Rattle.form.specs.declared.machine.Digits.{Digits}
 use Rattle.form.specs.declared.machine.Digits.the-variants.{None, Zero, Other, Two}
 use Rattle.form.specs.declared.machine.State.{State}
 use Rattle.form.specs.declared.machine.State.the-variants.{Key, Name, Closed, Number, Done, Wrong}
-use Rattle.form.specs.Order.{sections, follows, likely}
+use Rattle.form.specs.Order.{follows, likely}
 use Rattle.form.specs.Keys.{goesOn}
 
 -- ---- keys

@@ -1,14 +1,9 @@
--- The sections of a text in their order, and which may follow which.
+-- Which sections of a text may follow which.
 use mathlib.Core.Bool.{Bool, true, false}
-use mathlib.Core.List.{List, [], _∷_}
 use Rattle.naming.specs.declared.sections.Section.{Section}
 use Rattle.naming.specs.declared.sections.Section.the-variants.{Columns, Forbid, Need, End}
 use Rattle.form.specs.declared.order.Behind.{Behind}
 use Rattle.form.specs.declared.order.Behind.the-variants.{Nothing, Line}
-
--- all sections, in their order
-abbrev pub sections : List Section
-sections = Columns ∷ Forbid ∷ Need ∷ End ∷ []
 
 -- the entry of a row for a section
 abbrev pub row : Bool → Bool → Bool → Bool → Section → Bool

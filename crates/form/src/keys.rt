@@ -4,7 +4,8 @@ use crate::order::follows;
 use naming::sections::Section;
 use naming::sections::key_byte;
 ghost use mathlib.Core.Path.{_≡_};
-ghost use Rattle.form.specs.Keys.{alike as beginAlike, goesOn};
+ghost use Rattle.naming.specs.Sections.{alike as beginAlike};
+ghost use Rattle.form.specs.Keys.{goesOn};
 
 // Whether the key of the other section may stand behind this, goes on with the byte, and begins with the k bytes of the section's key that stand
 // there.

@@ -2,11 +2,11 @@
 // what the bytes so far say about the bytes that may come.
 use crate::keys::goes_on;
 use crate::order::Behind;
-use crate::order::SECTIONS;
 use crate::order::likely;
-use crate::order::section_at;
+use naming::sections::SECTIONS;
 use naming::sections::Section;
 use naming::sections::key_byte;
+use naming::sections::section_at;
 use naming::sections::width;
 use naming::signs::LINE_END;
 use naming::signs::MOST_BRACKETS;
@@ -17,8 +17,8 @@ use naming::words::MOST_NAME_BYTES;
 ghost use mathlib.Core.Path.{_≡_};
 ghost use mathlib.Core.Bool.{true};
 ghost use Prim.Native.Nat.{_<_};
-ghost use Rattle.naming.specs.Sections.{widthOf};
-ghost use Rattle.form.specs.Order.{sections, follows};
+ghost use Rattle.naming.specs.Sections.{widthOf, sections};
+ghost use Rattle.form.specs.Order.{follows};
 ghost use Rattle.form.specs.Machine.{valueOf, onward as onwardIn, firstOn, inKey, hasBrackets, joining, atItem, behindItem, nameOn};
 ghost use Rattle.form.specs.Machine.{inNumber, onDigit, numberEnding, step as stepped, Possible};
 

@@ -1,29 +1,12 @@
-// The sections of a text in their order, and which may follow which.
+// Which sections of a text may follow which.
 use naming::sections::Section;
 ghost use mathlib.Core.Path.{_≡_};
-ghost use lib.ListN.{getD};
-ghost use Rattle.naming.specs.declared.sections.Section.the-variants.{End};
-ghost use Rattle.form.specs.Order.{sections, row as rowOf, follows as mayFollow, likely as likelyBehind};
+ghost use Rattle.form.specs.Order.{row as rowOf, follows as mayFollow, likely as likelyBehind};
 
 // What stands before a line.
 pub enum Behind {
     Nothing, // the text begins
     Line(Section), // a line of this section
-}
-
-// How many sections there are.
-pub const SECTIONS: usize = 4;
-
-// The section at a place of the order.
-pub fn section_at(place: usize) -> Section
-    ensures { λ r. ⌜ r ≡ getD sections place End ⌝ }
-{
-    match place {
-        0 => Section::Columns,
-        1 => Section::Forbid,
-        2 => Section::Need,
-        _ => Section::End,
-    }
 }
 
 // Whether a line of the section may stand behind this. The rows have an entry for each section, in their order.

@@ -3,6 +3,8 @@ pub mod Said
 pub mod Runs
 pub mod Alike
 pub mod Walks
+pub mod AllSections
+pub mod KeysApart
 pub mod KeyPlaces
 pub mod CountedKeys
 pub mod PhraseNames

@@ -1,10 +1,11 @@
 -- The sections of a job text, each with the key that its lines begin with, and which of them the number at the end counts.
 use mathlib.Core.Bool.{Bool, true, false, _&&_}
 use mathlib.Core.List.{List, [], _∷_}
-use Prim.Native.Nat.{ℕ}
+use Prim.Native.Nat.{ℕ, zero, suc}
+use lib.Dec.{eqb}
 use lib.ListN.{length}
 use Rattle.rules.specs.Lists.{anyOf}
-use Rattle.rules.specs.Signs.{saysAt, columnsKey, forbidKey, needKey, endKey}
+use Rattle.rules.specs.Signs.{byteAt, saysAt, columnsKey, forbidKey, needKey, endKey}
 use Rattle.naming.specs.declared.sections.Section.{Section}
 use Rattle.naming.specs.declared.sections.Section.the-variants.{Columns, Forbid, Need, End}
 
@@ -19,9 +20,14 @@ keyOf End = endKey
 abbrev pub widthOf : Section → ℕ
 widthOf section = length (keyOf section)
 
--- all of them
+-- all sections, in their order
 abbrev pub sections : List Section
 sections = Columns ∷ Forbid ∷ Need ∷ End ∷ []
+
+-- the first k bytes of two keys are the same
+unfoldable pub alike : Section → Section → ℕ → Bool
+alike one other zero = true
+alike one other (suc k) = eqb (byteAt (keyOf one) k) (byteAt (keyOf other) k) && alike one other k
 
 -- the number at the end counts its lines
 abbrev pub counted : Section → Bool

@@ -7,17 +7,33 @@ ghost use mathlib.Core.Path.{_≡_};
 ghost use mathlib.Core.Bool.{true, false, _&&_};
 ghost use mathlib.Core.List.{List};
 ghost use Prim.Native.Nat.{ℕ, _+_, _<_, _≤_};
-ghost use lib.ListN.{length};
+ghost use lib.ListN.{length, getD};
 ghost use Rattle.rules.specs.Signs.{byteAt, Says, saysAt};
 ghost use Rattle.rules.specs.Names.{Spot};
 ghost use Rattle.naming.specs.Words.{Words};
-ghost use Rattle.naming.specs.Sections.{keyOf, widthOf, counted, countedAt};
+ghost use Rattle.naming.specs.Sections.{keyOf, widthOf, counted, countedAt, sections};
+ghost use Rattle.naming.specs.declared.sections.Section.the-variants.{End};
 
 pub enum Section {
     Columns,
     Forbid,
     Need,
     End,
+}
+
+// How many sections there are.
+pub const SECTIONS: usize = 4;
+
+// The section at a place of their order.
+pub fn section_at(place: usize) -> Section
+    ensures { λ r. ⌜ r ≡ getD sections place End ⌝ }
+{
+    match place {
+        0 => Section::Columns,
+        1 => Section::Forbid,
+        2 => Section::Need,
+        _ => Section::End,
+    }
 }
 
 // How many bytes stand before the value of its lines.
@@ -87,16 +103,14 @@ pub fn counts(section: Section) -> bool
 pub fn counted_at(text: &[u8], at: usize) -> bool
     ensures { λ r. ⌜ r ≡ countedAt (now (text .entry)) at ⌝ }
 {
-    if counted_by(text, Section::Columns, at) {
-        return true;
+    let mut i = 0;
+    while i < SECTIONS {
+        if counted_by(text, section_at(i), at) {
+            return true;
+        }
+        i += 1;
     }
-    if counted_by(text, Section::Forbid, at) {
-        return true;
-    }
-    if counted_by(text, Section::Need, at) {
-        return true;
-    }
-    counted_by(text, Section::End, at)
+    false
 }
 
 // Whether the number at the end counts the lines of this section, and its key stands at a place.

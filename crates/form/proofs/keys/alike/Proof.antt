@@ -2,7 +2,7 @@
 use mathlib.Core.Path.{_≡_, refl, sym, ap, _∙_}
 use native.Mathlib.Omega.{arith}
 use borrow.Author.Needs.{needs}
-use Rattle.form.specs.Keys.{alike}
+use Rattle.naming.specs.Sections.{alike}
 use Rattle.form.proofs.KeyLaws.{alike-on, alike-stops}
 use Rattle.form.proofs.keys.alike.Statement.{statement}
 use Rattle.form.proofs.keys.alike.Tie as tie

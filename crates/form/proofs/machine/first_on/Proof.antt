@@ -8,7 +8,7 @@ use lib.ListN.{length, drop}
 use borrow.Author.Needs.{needs}
 use Rattle.naming.proofs.KeyPlaces.{width-bounds}
 use Rattle.naming.specs.declared.sections.Section.the-variants.{End}
-use Rattle.form.specs.Order.{sections}
+use Rattle.naming.specs.Sections.{sections}
 use Rattle.form.specs.Keys.{goesOn}
 use Rattle.form.specs.Machine.{firstOn}
 use Rattle.form.proofs.KeyLaws.{first-here, first-next}

@@ -1,9 +1,9 @@
--- `form::order::section_at` meets its contract. Assumes nothing.
+-- `naming::sections::section_at` meets its contract. Assumes nothing.
 use mathlib.Core.Path.{sym}
 use borrow.Author.Needs.{needs}
-use Rattle.form.proofs.Table.{at-end}
-use Rattle.form.proofs.order.section_at.Statement.{statement}
-use Rattle.form.proofs.order.section_at.Tie as tie
+use Rattle.naming.proofs.AllSections.{at-end}
+use Rattle.naming.proofs.sections.section_at.Statement.{statement}
+use Rattle.naming.proofs.sections.section_at.Tie as tie
 
 returns : tie.Need-returns
 returns c = search needs
