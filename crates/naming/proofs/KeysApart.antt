@@ -2,7 +2,7 @@
 use mathlib.Core.Path.{_≡_, refl, sym, ap, _∙_}
 use mathlib.Core.Bool.{Bool, true, false}
 use mathlib.Core.List.{List, [], _∷_}
-use Prim.Native.Nat.{ℕ, zero, suc, _+_, _<_, _≤_}
+use Prim.Native.Nat.{ℕ, zero, suc, _+_, _*_, _/_, _%_, _^_, _<_, _≤_}
 use native.Mathlib.Nat.{lt-of-not-le}
 use native.Mathlib.Numerals.{add-one}
 use native.Mathlib.Omega.{arith}
@@ -10,10 +10,10 @@ use lib.Dec.{ltb, leb, eqb}
 use lib.ListN.{length}
 use borrow.Author.Count.{below-more}
 use borrow.Author.Tests.{leb-true, leb-false, eqb-true, eq-eqb}
-use Rattle.rules.specs.Lists.{every}
+use Rattle.rules.specs.Lists.{every, upFrom}
 use Rattle.rules.specs.Signs.{byteAt, Says, says-all, says-byte}
-use Rattle.rules.proofs.Lists.{and-parts, and-both}
-use Rattle.naming.specs.Sections.{keyOf, widthOf, alike}
+use Rattle.rules.proofs.Lists.{and-parts, and-both, every-in, upFrom-in}
+use Rattle.naming.specs.Sections.{keyOf, widthOf, packed, alike}
 use Rattle.naming.specs.declared.sections.Section.{Section}
 use Rattle.naming.proofs.AllSections.{order, same-order, each, each-pair, whenever, then-holds}
 
@@ -23,6 +23,15 @@ use Rattle.naming.proofs.AllSections.{order, same-order, each, each-pai
 pub key-bytes : (section : Section) → every (ltb 0) (keyOf section) ≡ true
 unfolding every
 key-bytes section = each (λ a. every (ltb 0) (keyOf a)) refl section
+
+-- a key's bytes can be taken out of its number, which has all of them
+pub packed-byte : (section : Section) (k : ℕ) → k < 8 → packed (keyOf section) / 2 ^ (8 * k) % 256 ≡ byteAt (keyOf section) k
+unfolding every upFrom packed
+packed-byte section k h =
+    eqb-true _ _
+    (every-in (λ i. eqb (packed (keyOf section) / 2 ^ (8 * i) % 256) (byteAt (keyOf section) i))
+    (each (λ a. every (λ i. eqb (packed (keyOf a) / 2 ^ (8 * i) % 256) (byteAt (keyOf a) i)) (upFrom 0 8)) refl section)
+    (upFrom-in 0 8 k (omega arith) (omega arith)))
 
 -- k bytes stand from place p on that are the first ones of these
 abbrev pub Begun : List ℕ → ℕ → List ℕ → ℕ → Type 0

@@ -1,7 +1,7 @@
 -- The sections of a job text, each with the key that its lines begin with, and which of them the number at the end counts.
 use mathlib.Core.Bool.{Bool, true, false, _&&_}
 use mathlib.Core.List.{List, [], _∷_}
-use Prim.Native.Nat.{ℕ, zero, suc}
+use Prim.Native.Nat.{ℕ, zero, suc, _+_, _*_}
 use lib.Dec.{eqb}
 use lib.ListN.{length}
 use Rattle.rules.specs.Lists.{anyOf}
@@ -19,6 +19,11 @@ keyOf End = endKey
 -- how many they are
 abbrev pub widthOf : Section → ℕ
 widthOf section = length (keyOf section)
+
+-- bytes as one number, the first one lowest
+unfoldable pub packed : List ℕ → ℕ
+packed [] = 0
+packed (b ∷ bytes) = b + 256 * packed bytes
 
 -- all sections, in their order
 abbrev pub sections : List Section

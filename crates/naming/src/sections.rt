@@ -1,6 +1,5 @@
 // The sections of a job text: its kinds of lines, each told by the key that its lines begin with.
 use crate::known::COLUMNS_FROM;
-use crate::signs::byte;
 use crate::signs::stands;
 use crate::words::line_end;
 ghost use mathlib.Core.Path.{_≡_};
@@ -11,7 +10,7 @@ ghost use lib.ListN.{length, getD};
 ghost use Rattle.rules.specs.Signs.{byteAt, Says, saysAt};
 ghost use Rattle.rules.specs.Names.{Spot};
 ghost use Rattle.naming.specs.Words.{Words};
-ghost use Rattle.naming.specs.Sections.{keyOf, widthOf, counted, countedAt, sections};
+ghost use Rattle.naming.specs.Sections.{keyOf, widthOf, packed, counted, countedAt, sections};
 ghost use Rattle.naming.specs.declared.sections.Section.the-variants.{End};
 
 pub enum Section {
@@ -48,16 +47,27 @@ pub fn width(section: Section) -> usize
     }
 }
 
-// The byte at a place of its key; 0 past the end.
+// The bytes of its key as one number, the first byte lowest.
+fn key_word(section: Section) -> u64
+    ensures { λ r. ⌜ r ≡ packed (keyOf section) ⌝ }
+{
+    match section {
+        Section::Columns => 0x3D73_6E6D_756C_6F63,
+        Section::Forbid => 0x003D_6469_6272_6F66,
+        Section::Need => 0x0000_003D_6465_656E,
+        Section::End => 0x0000_0000_3D64_6E65,
+    }
+}
+
+// The byte at a place of its key; 0 past the end. It is taken out of one number, because a text is looked at byte by byte, and a key that
+// is laid out anew for each byte takes longer than all the rest.
 pub fn key_byte(section: Section, at: usize) -> u8
     ensures { λ r. ⌜ r ≡ byteAt (keyOf section) at ⌝ }
 {
-    match section {
-        Section::Columns => byte(b"columns=", at),
-        Section::Forbid => byte(b"forbid=", at),
-        Section::Need => byte(b"need=", at),
-        Section::End => byte(b"end=", at),
+    if 8 <= at {
+        return 0;
     }
+    ((key_word(section) >> (8 * at)) % 256) as u8
 }
 
 // Whether a line of the section begins at a place.
