@@ -59,8 +59,8 @@ fn key_word(section: Section) -> u64
     }
 }
 
-// The byte at a place of its key; 0 past the end. It is taken out of one number, because a text is looked at byte by byte, and a key that
-// is laid out anew for each byte takes longer than all the rest.
+// The byte at a place of its key; 0 past the end. It is taken out of one number, because a byte string would be laid out anew at every call, and
+// a text is looked at byte by byte.
 pub fn key_byte(section: Section, at: usize) -> u8
     ensures { λ r. ⌜ r ≡ byteAt (keyOf section) at ⌝ }
 {

@@ -293,12 +293,7 @@ module _ {s : List ℕ} {sheet : Sheet} (form : OfForm s sheet) where
       let late = lines-from s refl (λ p q a. along-phrase s) namesIn (omega arith) (λ p q a. phrase-from s) needs-begin (form .needs) l m in
       record { number = late .number; late = omega (arith, late .late); begins = late .begins; said = late .said; names = late .names }
 
--- the number of the end line stands in the line after the columns line and as many lines as there are forbid and need lines
-pub end-line : (s : List ℕ) (sheet : Sheet) → OfForm s sheet → positionOf s (sheet .ended .place) .line ≡ linesIn sheet + 2
-unfolding every
-end-line s sheet form = rw (form .ended) (along-says s (form .endSaid) refl .line ∙ end-begins form .line)
-
--- as the fifth byte of it, behind `end=`
+-- the number of the end line stands behind `end=`, so its first digit is the fifth byte of its line
 pub end-column : (s : List ℕ) (sheet : Sheet) → OfForm s sheet → positionOf s (sheet .ended .place) .column ≡ 5
 unfolding every
 end-column s sheet form = rw (form .ended) (omega (arith, along-says s (form .endSaid) refl .column, end-begins form .column))
