@@ -85,6 +85,7 @@ def names(texts, crates):
             steps = place.split(".")
             if steps[0] != "Rattle" or steps[1] not in crates:
                 library |= {item.strip().split(" as ")[0].strip() for item in items.split(",")}
+            own |= {alias for alias in re.findall(r"\bas (\w+)", items) if CAMEL.match(alias)}
         if not path.endswith(".antt"):
             continue
         by_check = path.endswith("Proof.antt")
@@ -113,9 +114,9 @@ def table(texts, crates):
             continue
         if "-" in name.strip("-") and not name.startswith("-") or CAMEL.match(name):
             turned[name] = snake(name)
-    # With no name to be turned the files were turned before, and a name that is as it should be must not give way to itself.
-    if turned:
-        turned.update({old: new for old, new in FALL.items() if old in own})
+    # A name that is as it should be gives way only to one that is turned into it.
+    made = set(turned.values())
+    turned.update({old: new for old, new in FALL.items() if old in turned or old in made})
     return turned
 
 

@@ -1,7 +1,7 @@
 // What is wrong where a text stops being of the form.
 ghost use Rattle.std.specs.Prelude.{◌≡◌, ◌||◌, ◌<◌, ◌≤◌, length, take};
 ghost use Rattle.rules.specs.Signs.{in_name};
-ghost use Rattle.advice.specs.Sentences.{capital as capitalByte, joining as joiningByte, in_key, name_full, open_after, wrong_sign, wrong_at};
+ghost use Rattle.advice.specs.Sentences.{capital as capital_byte, joining as joining_byte, in_key, name_full, open_after, wrong_sign, wrong_at};
 
 use crate::numbers::less;
 use naming::signs::{LINE_END, MOST_BRACKETS, digit, in_name};
@@ -140,21 +140,21 @@ fn open_before(text: &[u8], place: usize) -> usize
 
 // Whether a byte is a capital letter.
 fn capital(sign: u8) -> bool
-    ensures { result ≡ capitalByte sign }
+    ensures { result ≡ capital_byte sign }
 {
     b'A' <= sign && sign <= b'Z'
 }
 
 // Whether a byte is one of job texts, and no line's end.
 fn of_texts(sign: u8) -> bool
-    ensures { result ≡ (in_name sign || joiningByte sign) }
+    ensures { result ≡ (in_name sign || joining_byte sign) }
 {
     in_name(sign) || joining(sign)
 }
 
 // Whether a byte is one of job texts that is neither in a name nor a line's end.
 fn joining(sign: u8) -> bool
-    ensures { result ≡ joiningByte sign }
+    ensures { result ≡ joining_byte sign }
 {
     match sign {
         b'=' | b',' | b'+' | b'&' | b'|' | b'(' | b')' => true,

@@ -1,6 +1,6 @@
 // Keys that begin alike: while a key is read, each of them may be the one that stands.
 ghost use Rattle.std.specs.Prelude.{◌≡◌};
-ghost use Rattle.naming.specs.Sections.{alike as beginAlike};
+ghost use Rattle.naming.specs.Sections.{alike as begin_alike};
 ghost use Rattle.form.specs.Keys.{goes_on};
 
 use crate::order::{Behind, follows};
@@ -22,7 +22,7 @@ pub fn goes_on(behind: Behind, section: Section, k: usize, byte: u8, other: Sect
 
 // Whether the first k bytes of two keys are the same.
 fn alike(one: Section, other: Section, k: usize) -> bool
-    ensures { result ≡ beginAlike one other k }
+    ensures { result ≡ begin_alike one other k }
 {
     let mut i = k;
     while 0 < i {

@@ -3,7 +3,7 @@
 ghost use Rattle.std.specs.Prelude.{◌≡◌, true, ◌<◌};
 ghost use Rattle.naming.specs.Sections.{width_of, sections};
 ghost use Rattle.form.specs.Order.{follows};
-ghost use Rattle.form.specs.Machine.{value_of, onward as onwardIn, first_on, in_key, has_brackets, joining, at_item, behind_item, name_on};
+ghost use Rattle.form.specs.Machine.{value_of, onward as onward_in, first_on, in_key, has_brackets, joining, at_item, behind_item, name_on};
 ghost use Rattle.form.specs.Machine.{in_number, on_digit, number_ending, step as stepped, Possible};
 
 use crate::keys::goes_on;
@@ -76,7 +76,7 @@ fn first_on(behind: Behind, section: Section, k: usize, byte: u8) -> State
 
 // So many bytes of a section's key stand: another one must come, or what stands behind the key.
 fn onward(behind: Behind, section: Section, k: usize) -> State
-    ensures { result ≡ onwardIn behind section k }
+    ensures { result ≡ onward_in behind section k }
 {
     if k < width(section) {
         State::Key(section, behind, k)

@@ -1,6 +1,6 @@
 // Which sections of a text may follow which.
 ghost use Rattle.std.specs.Prelude.{◌≡◌};
-ghost use Rattle.form.specs.Order.{row as row_of, follows as mayFollow, likely as likelyBehind};
+ghost use Rattle.form.specs.Order.{row as row_of, follows as may_follow, likely as likely_behind};
 
 use naming::sections::Section;
 
@@ -13,7 +13,7 @@ pub enum Behind {
 
 // Whether a line of the section may stand behind this. The rows have an entry for each section, in their order.
 pub fn follows(behind: Behind, section: Section) -> bool
-    ensures { result ≡ mayFollow behind section }
+    ensures { result ≡ may_follow behind section }
 {
     match behind {
         Behind::Nothing => row(true, false, false, false, section),
@@ -28,7 +28,7 @@ pub fn follows(behind: Behind, section: Section) -> bool
 
 // The section whose key is tried first behind a line of this one: one that may follow, and often does.
 pub fn likely(before: Section) -> Section
-    ensures { result ≡ likelyBehind before }
+    ensures { result ≡ likely_behind before }
 {
     match before {
         Section::Columns => Section::Forbid,

@@ -8,7 +8,7 @@ pub mod refusals; // refusals.rt: the numbers of the refusals
 pub mod rows; // rows.rt: the needs laid out for evaluation
 
 ghost use Rattle.std.specs.Prelude.{◌≡◌, true, false, length};
-ghost use Rattle.rules.specs.Marks.{rows as rowsIn};
+ghost use Rattle.rules.specs.Marks.{rows as rows_in};
 ghost use Rattle.job.specs.Records.{no_job, job_with, loaded};
 
 // "Forbidden sets 0 to 32." Eight needs of 63 marks and an end mark each are 512.
@@ -80,7 +80,7 @@ fn unfit() -> Loaded
 
 // What fit numbers give.
 fn fit(columns: u16, forbidden: &[u16], needs: usize, marks: &[u16]) -> Loaded
-    requires { needs ≡ length (rowsIn marks.now) }
+    requires { needs ≡ length (rows_in marks.now) }
     ensures fits { result.fit ≡ true }
     ensures holds { result.job ≡ job_with (record { columns = columns; forbidden = forbidden.now; marks = marks.now }) }
 {

@@ -1,7 +1,7 @@
 // The faults that take two indices.
 ghost use Rattle.std.specs.Prelude.{◌≡◌};
 ghost use Rattle.rules.specs.Lists.{first_where};
-ghost use Rattle.rules.specs.Jobs.{Job, breaks as breaksIn, unlinked as unlinkedIn};
+ghost use Rattle.rules.specs.Jobs.{Job, breaks as breaks_in, unlinked as unlinked_in};
 ghost use Rattle.rules.specs.Verdicts.{first_forbidden, first_sharing};
 ghost use Rattle.job.specs.Findings.{place_of};
 ghost use Rattle.judge.specs.Answers.{places_of};
@@ -18,21 +18,21 @@ pub enum Pair {
 
 // Whether an extract breaks a forbidden set.
 fn breaks(extract: u16, forbidden: u16) -> bool
-    ensures { (job : Job) → result ≡ breaksIn job extract forbidden }
+    ensures { (job : Job) → result ≡ breaks_in job extract forbidden }
 {
     (ColumnSet { bits: extract }).contains(ColumnSet { bits: forbidden })
 }
 
 // Whether two extracts share no column.
 fn unlinked(one: u16, other: u16) -> bool
-    ensures { (job : Job) → result ≡ unlinkedIn job one other }
+    ensures { (job : Job) → result ≡ unlinked_in job one other }
 {
     (ColumnSet { bits: one }).apart(ColumnSet { bits: other })
 }
 
 // The first forbidden set that an extract breaks.
 fn first_broken(extract: u16, forbidden: &[u16]) -> Found
-    ensures { (job : Job) → place_of result ≡ first_where (breaksIn job extract) forbidden.now }
+    ensures { (job : Job) → place_of result ≡ first_where (breaks_in job extract) forbidden.now }
 {
     let mut j = 0;
     while j < forbidden.len() {

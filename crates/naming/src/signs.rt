@@ -1,6 +1,6 @@
 // The bytes of a job text.
 ghost use Rattle.std.specs.Prelude.{◌≡◌, true, false};
-ghost use Rattle.rules.specs.Signs.{byte_at, Says, letter as letterByte, digit as digitByte, in_name};
+ghost use Rattle.rules.specs.Signs.{byte_at, Says, letter as letter_byte, digit as digit_byte, in_name};
 ghost use Rattle.naming.specs.Words.{is_sign};
 
 pub const LINE_END: u8 = b'\n';
@@ -35,13 +35,13 @@ pub fn stands(text: &[u8], at: usize, bytes: &[u8]) -> bool
 }
 
 pub fn letter(sign: u8) -> bool
-    ensures { result ≡ letterByte sign }
+    ensures { result ≡ letter_byte sign }
 {
     b'a' <= sign && sign <= b'z'
 }
 
 pub fn digit(sign: u8) -> bool
-    ensures { result ≡ digitByte sign }
+    ensures { result ≡ digit_byte sign }
 {
     b'0' <= sign && sign <= b'9'
 }

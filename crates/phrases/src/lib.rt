@@ -1,7 +1,7 @@
 // The value of a need line, read into the need's marks: an or-list is and-lists joined by |, an and-list is items joined by &, an item is a name or
 // an or-list in brackets. Joins of one kind group from the left, and a join's mark stands behind its operands.
 ghost use Rattle.std.specs.Prelude.{length};
-ghost use Rattle.rules.specs.Phrases.{item as itemKind, list, ors, ands};
+ghost use Rattle.rules.specs.Phrases.{item as item_kind, list, ors, ands};
 ghost use Rattle.phrases.specs.Readers.{Readable, Marked};
 
 use job::rows::{AND_MARK, OR_MARK};
@@ -61,8 +61,8 @@ fn and_list(text: &[u8], at: usize, marks: &mut [u16], marked: usize) -> Read
 
 #[cycle(and_list_item_or_list)]
 fn item(text: &[u8], at: usize, marks: &mut [u16], marked: usize) -> Read
-    requires { Readable text.now itemKind at marked (length marks.old) }
-    ensures { Marked text.now itemKind at marked marks.old result marks.new }
+    requires { Readable text.now item_kind at marked (length marks.old) }
+    ensures { Marked text.now item_kind at marked marks.old result marks.new }
 {
     if byte(text, at) == b'(' {
         let inner = or_list(text, at + 1, marks, marked);

@@ -7,7 +7,7 @@ use text::read;
 mod lines; // lines.rt: the lines of a page
 
 ghost use Rattle.std.specs.Prelude.{List, ℕ};
-ghost use Rattle.rules.specs.Pages.{refused as refusedWith, released as released_with};
+ghost use Rattle.rules.specs.Pages.{refused as refused_with, released as released_with};
 ghost use Rattle.job.specs.Records.{numbers_in};
 ghost use Rattle.planner.specs.Promises.{Plans};
 ghost use Rattle.report.specs.Naming.{Named};
@@ -42,7 +42,7 @@ fn planned(job: Job, extracts: &mut [u16]) -> Planned
 
 // The page of a refusal.
 fn refused(page: &mut [u8], refusal: u16, place: usize) -> Reported
-    ensures { Prints (refusedWith refusal place) page.old result page.new }
+    ensures { Prints (refused_with refusal place) page.old result page.new }
 {
     let length = lines::put_refusal(page, refusal, place);
     Reported {

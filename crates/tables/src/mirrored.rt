@@ -1,6 +1,6 @@
 // A job with its columns in the other order.
 ghost use Rattle.std.specs.Prelude.{◌≡◌, map, ◌≤◌};
-ghost use Rattle.tables.specs.Tables.{mirror as mirrorOf};
+ghost use Rattle.tables.specs.Tables.{mirror as mirror_of};
 ghost use Rattle.tables.specs.Mirrored.{mirrored_mark, mirrored_job};
 
 use job::Job;
@@ -8,7 +8,7 @@ use job::Job;
 // The set with its columns in the other order: each further column goes below those before it.
 fn mirror(set: u16, columns: u16) -> u16
     requires { columns ≤ 16 }
-    ensures { result ≡ mirrorOf columns set }
+    ensures { result ≡ mirror_of columns set }
 {
     let mut mirrored = 0;
     let mut column = 0;
@@ -22,7 +22,7 @@ fn mirror(set: u16, columns: u16) -> u16
 // Every set with its columns in the other order.
 fn mirror_sets(sets: &mut [u16], columns: u16)
     requires { columns ≤ 16 }
-    ensures { sets.new ≡ map (mirrorOf columns) sets.old }
+    ensures { sets.new ≡ map (mirror_of columns) sets.old }
 {
     let mut i = 0;
     while i < sets.len() {

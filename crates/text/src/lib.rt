@@ -14,7 +14,7 @@ ghost use Rattle.std.specs.Prelude.{◌≡◌};
 ghost use Rattle.std.proofs.Math.Option.{none};
 ghost use Rattle.rules.specs.Texts.{Sheet, OfForm};
 ghost use Rattle.rules.specs.Sheets.{sheet_fault};
-ghost use Rattle.rules.specs.Readings.{refused as refusedWith, reading_of};
+ghost use Rattle.rules.specs.Readings.{refused as refused_with, reading_of};
 ghost use Rattle.text.specs.Promises.{Right, Takes, read_of};
 
 // "Job text at most 8,192 bytes."
@@ -32,7 +32,7 @@ pub struct JobRead {
 
 // The answer to a text that is refused.
 fn refused(refusal: u16, place: usize) -> JobRead
-    ensures { result ≡ read_of (refusedWith refusal place) }
+    ensures { result ≡ read_of (refused_with refusal place) }
 {
     let job = no_job();
     JobRead {
