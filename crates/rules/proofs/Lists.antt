@@ -62,6 +62,7 @@ module _ {A : Type 0} where
   unfolding every
   every_in p {x} {xs = y ∷ ys} e (Memᴰ.head q) = ap p q ∙ (and_parts (p y) (every p ys) e).0
   every_in p {x} {xs = y ∷ ys} e (Memᴰ.tail m) = every_in p (and_parts (p y) (every p ys) e).1 m
+  every_in p {x = x} {xs = []} e m = elim m [ ]
 
   pub every_all : (p : A → Bool) (xs : List A) → ((x : A) → Memᴰ x xs → p x ≡ true) → every p xs ≡ true
   unfolding every
@@ -85,11 +86,13 @@ module _ {A : Type 0} where
   unfolding any_of
   any_in p {x} {xs = y ∷ ys} (Memᴰ.head q) e = or_left (p y) (any_of p ys) (sym (ap p q) ∙ e)
   any_in p {x} {xs = y ∷ ys} (Memᴰ.tail m) e = or_right (p y) (any_of p ys) (any_in p m e)
+  any_in p {x = x} {xs = []} m e = elim m [ ]
 
   pub not_any_in : (p : A → Bool) {x : A} {xs : List A} → any_of p xs ≡ false → Memᴰ x xs → p x ≡ false
   unfolding any_of
   not_any_in p {x} {xs = y ∷ ys} e (Memᴰ.head q) = ap p q ∙ (or_neither (p y) (any_of p ys) e).0
   not_any_in p {x} {xs = y ∷ ys} e (Memᴰ.tail m) = not_any_in p (or_neither (p y) (any_of p ys) e).1 m
+  not_any_in p {x = x} {xs = []} e m = elim m [ ]
 
   pub not_any_all : (p : A → Bool) (xs : List A) → ((x : A) → Memᴰ x xs → p x ≡ false) → any_of p xs ≡ false
   unfolding any_of
@@ -112,6 +115,7 @@ module _ {A : Type 0} where
   pub in_get_d : {x : A} {xs : List A} (d : A) → Memᴰ x xs → (i : ℕ) × (i < length xs) × (get_or xs i d ≡ x)
   in_get_d {x} {xs = y ∷ ys} d (Memᴰ.head e) = (0, omega arith, sym e)
   in_get_d {x} {xs = y ∷ ys} d (Memᴰ.tail m) = let r = in_get_d d m in (suc r.0, omega arith, r.2)
+  in_get_d {x = x} {xs = []} d m = elim m [ ]
 
   -- what stands behind the first k is one of all
   pub drop_in : {x : A} (k : ℕ) (xs : List A) → Memᴰ x (drop k xs) → Memᴰ x xs
@@ -152,6 +156,7 @@ module _ {A : Type 0} where
       go : (b : Bool) → Memᴰ x (keep p ys) → Memᴰ x (cond b (y ∷ keep p ys) (keep p ys))
       go true i = Memᴰ.tail i
       go false i = i
+  keep_in p {x = x} {xs = []} m e = elim m [ ]
 
   pub in_keep : (p : A → Bool) (x : A) (xs : List A) → Memᴰ x (keep p xs) → Memᴰ x xs × (p x ≡ true)
   unfolding keep
@@ -165,6 +170,7 @@ module _ {A : Type 0} where
       go true e f (Memᴰ.head q) = (Memᴰ.head q, ap p q ∙ e)
       go true e f (Memᴰ.tail i) = old (f i)
       go false e f i = old (f i)
+  in_keep p x [] m = elim m [ ]
 
   pub keep_few : (p : A → Bool) (xs : List A) → length (keep p xs) ≤ length xs
   unfolding keep

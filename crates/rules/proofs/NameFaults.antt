@@ -41,12 +41,14 @@ module _ (fault : List Spot → Spot → Option ℕ) where
   fault_within : {p q : ℕ} {before names : List Spot} {f : Refusal} → NamesRise p q names → FaultIn before names f → (p ≤ f.place) × (f.place < q)
   fault_within (onward l r) (now e) = (l, rise_forward _ r)
   fault_within (onward l r) (later i) = let w = fault_within r i in (omega arith, omega arith)
+  fault_within {before = before} {f = f} (nothing {p = p} {q = q} _) m = elim m [ ]
 
   fault_none : (before names : List Spot) → NoneMissed (FaultIn before names) (first_name_fault fault before names)
   unfolding first_name_fault
   fault_none before (x ∷ names) e f (now {n} h) =
       absurd (none-ne-some n (sym ((map-eq-none_iff _ (fault before x)).0 (else_none _ _ e).0) ∙ h))
   fault_none before (x ∷ names) e f (later i) = fault_none (before ++ (x ∷ [])) names (else_none _ _ e).1 f i
+  fault_none before [] e f m = elim m [ ]
 
   fault_smallest : {p q : ℕ} (before : List Spot) {names : List Spot} → NamesRise p q names
       → Smallest (λ f. f.place) (FaultIn before names) (first_name_fault fault before names)

@@ -23,7 +23,7 @@ module _ {A : Type 0} (place : A → ℕ) where
   -- what rises from a place to a place rises from every earlier one to every later one
   pub rise_wider : {p p' q q' : ℕ} {xs : List A} → p ≤ p' → q' ≤ q → Rise p' q' xs → Rise p q xs
   rise_wider {p} {q} l m (nothing n) = let h : p ≤ q = omega arith in nothing h
-  rise_wider {p} l m (onward {x} n r) = let h : p ≤ place x = omega arith in onward h (rise_wider (le_refl _) m r)
+  rise_wider {p} l m (onward {x} n r) = let h : p ≤ place x = omega arith in onward h (rise_wider {p = suc (place x)} {p' = suc (place x)} (le_refl _) m r)
 
   -- what rises goes forward
   pub rise_forward : {p q : ℕ} {xs : List A} → Rise p q xs → p ≤ q
@@ -37,6 +37,7 @@ module _ {A : Type 0} (place : A → ℕ) where
       let h : place y ≡ place x = ap place e in
       (omega arith, omega arith)
   rise_within (onward l r) (Memᴰ.tail m) = let h = rise_within r m in (omega arith, omega arith)
+  rise_within {y = y} (nothing {p = p} {q = q} _) m = elim m [ ]
 
   -- what rises to a place and from there on rises
   pub rise_append : {p r q : ℕ} {xs ys : List A} → Rise p r xs → Rise r q ys → Rise p q (xs ++ ys)
@@ -54,7 +55,8 @@ module _ {A : Type 0} (place : A → ℕ) where
       → place y < place x
   rise_before (z ∷ before) x after (onward l r) (Memᴰ.head e) =
       omega (arith, (rise_within r (Memᴰ.append_right before (Memᴰ.head refl))).0, ap place e)
-  rise_before (z ∷ before) x after (onward l r) (Memᴰ.tail m) = rise_before before x after r m
+  rise_before {p} (z ∷ before) x after (onward l r) (Memᴰ.tail m) = rise_before {p = suc (place z)} before x after r m
+  rise_before {p = p} {q = q} {y = y} [] x after _ m = elim m [ ]
 
 -- the places of names rise
 abbrev pub NamesRise : ℕ → ℕ → List Spot → Type 0
@@ -83,6 +85,7 @@ module _ {A : Type 0} (names_at : A → List Spot) where
       let f = rise_forward _ n in
       let h = lines_names r m i in
       (omega arith, omega arith)
+  lines_names {l = l} {x = x} (no_lines {p = p} {q = q} _) m i = elim m [ ]
 
   -- of lines that rise the names of each do
   pub line_rises : {p q : ℕ} {l : Line A} {lines : List (Line A)} → LinesRise p q lines → Memᴰ l lines
@@ -90,6 +93,7 @@ module _ {A : Type 0} (names_at : A → List Spot) where
   line_rises (next_line {r} {l} k n more) (Memᴰ.head e) =
       (suc l.place, r, subst⁻¹ (λ (k : Line A). NamesRise (suc l.place) r (names_at k.value)) e n)
   line_rises (next_line k n more) (Memᴰ.tail m) = line_rises more m
+  line_rises {l = l} (no_lines {p = p} {q = q} _) m = elim m [ ]
 
 -- ---- names, phrases, lines
 

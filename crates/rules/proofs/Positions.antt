@@ -248,6 +248,7 @@ module _ (s : List ℕ) where
       lines_from b (one_line k v e more) l (Memᴰ.tail m) =
           let next = lines_from (line_ends b (along_on (along_says k over) (along _ _ _ v)) e) more l m in
           record { number = next.number; late = omega (arith, next.late); begins = next.begins; said = next.said; names = next.names }
+      lines_from {n = n} b (no_line {p = p} _) l m = elim m [ ]
 
 -- ---- in a text of the form
 

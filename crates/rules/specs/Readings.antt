@@ -1,6 +1,6 @@
 -- What reading a job text comes to. "Any input at all gets its one determined answer."
 use Rattle.std.specs.Prelude.{List, ℕ, ◌<◌, ◌≤◌, length}
-use Rattle.std.proofs.Math.Option.{Option·elim}
+use Rattle.std.proofs.Math.Option.{Option-elim}
 use Rattle.rules.specs.Numbers.{Numbers}
 use Rattle.rules.specs.Refusals.{text_too_long, text_not_of_form}
 use Rattle.rules.specs.Texts.{Sheet, OfForm, StopsAt}
@@ -17,7 +17,7 @@ pub data Reading : Type 0 where
 
 -- of a text of the form
 unfoldable pub reading_of : Sheet → Reading
-reading_of sheet = Option·elim (sheet_fault sheet) (taken (numbers_of sheet) (names_of sheet)) (λ f. refused f.number f.place)
+reading_of sheet = Option-elim (sheet_fault sheet) (taken (numbers_of sheet) (names_of sheet)) (λ f. refused f.number f.place)
 
 -- of any text. That no text reads in two ways is a law, that each reads in one is the reader's promise
 pub data Reads (s : List ℕ) : Reading → Type 0 where
