@@ -1,11 +1,13 @@
 // Sets of columns, held as a number of 16 bits: column i is bit i.
+#![tactic(auto)]
+
 ghost use Rattle.std.specs.Prelude.{◌≡◌, min, eqb};
 ghost use Rattle.rules.specs.Sets.{most_columns, has, contains, apart, size, empty, full, union, without, within};
 
 // How many sets of 16 columns there are: a table with a place for each set has so many.
 pub const ALL_SETS: usize = 65536;
 
-#[derive(Drop)]
+#[derive(Clone, Copy)]
 pub struct ColumnSet {
     pub bits: u16,
 }

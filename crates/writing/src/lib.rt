@@ -1,5 +1,7 @@
 // Bytes and numbers put behind one another on a lent page. Where the page is full, nothing more is put: so no call asks for room, and who needs a whole
 // page lends one that is long enough.
+#![tactic(auto)]
+
 ghost use Rattle.std.specs.Prelude.{[], ◌∷◌};
 ghost use Rattle.rules.specs.Words.{decimal};
 ghost use Rattle.writing.specs.Added.{Adds};
