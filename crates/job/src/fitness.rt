@@ -13,14 +13,14 @@ use columns::ColumnSet;
 pub const MOST_COLUMN_MARKS: usize = 32;
 
 // Where the first is that was looked for.
-#[derive(Drop)]
+#[derive(Clone, Copy)]
 pub enum Found {
     At(usize),
     Nothing,
 }
 
 // How many needs the marks are, where they are fit.
-#[derive(Drop)]
+#[derive(Clone, Copy)]
 pub enum Counted {
     Needs(usize),
     Unfit,

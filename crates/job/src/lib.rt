@@ -1,4 +1,6 @@
 // A job by value, from its numbers. `load` says whether they are fit.
+#![tactic(auto)]
+
 use columns::ColumnSet;
 use fitness::{Counted, Found};
 
@@ -17,7 +19,7 @@ pub const MOST_FORBIDDEN: usize = 32;
 pub const MOST_MARKS: usize = 512;
 
 // The numbers of a fit job. Places without a number are 0.
-#[derive(Drop)]
+#[derive(Clone, Copy)]
 pub struct Job {
     pub columns: u16,
     pub sets: usize, // how many forbidden sets there are
@@ -28,7 +30,7 @@ pub struct Job {
 }
 
 // A job, if the numbers are fit; if not, one with no columns, sets or marks.
-#[derive(Drop)]
+#[derive(Clone, Copy)]
 pub struct Loaded {
     pub fit: bool,
     pub job: Job,

@@ -10,7 +10,7 @@ use crate::known::COLUMNS_FROM;
 use crate::signs::stands;
 use crate::words::line_end;
 
-#[derive(Drop)]
+#[derive(Clone, Copy)]
 pub enum Section {
     Columns,
     Forbid,

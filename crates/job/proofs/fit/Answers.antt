@@ -1,0 +1,7 @@
+-- `job::fit` meets its contract. Assumes nothing.
+use Rattle.job.specs.Records.{job_with}
+use Rattle.job.proofs.fit.Goals as goal
+
+pub returns-clause-holds : goal.returns-clause-holds
+unfolding job_with
+returns-clause-holds c = rw (c.write.ensures, c.write-2.ensures, c.requires)
