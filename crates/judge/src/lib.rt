@@ -1,4 +1,6 @@
 // The judge: the first fault of a split, or that it is right.
+#![tactic(auto)]
+
 use job::fitness::Found;
 use job::{fitness, rows};
 use pairs::Pair;
@@ -8,7 +10,7 @@ mod unmet; // unmet.rt: needs that no extract meets
 
 ghost use Rattle.judge.specs.Promises.{Judges};
 
-#[derive(Drop)]
+#[derive(Clone, Copy)]
 pub enum Verdict {
     Unfit, // refusal 7: the numbers are unfit
     Improper(usize), // extract i is empty or names a missing column

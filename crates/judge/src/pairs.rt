@@ -10,7 +10,7 @@ use columns::ColumnSet;
 use job::fitness::Found;
 
 // Where the first pair is that was looked for.
-#[derive(Drop)]
+#[derive(Clone, Copy)]
 pub enum Pair {
     At(usize, usize),
     Nothing,

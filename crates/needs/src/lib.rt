@@ -1,4 +1,6 @@
 // A need, as a row of marks, evaluated on sets of columns: on 64 sets at once, each a bit of a word, or on one.
+#![tactic(auto)]
+
 ghost use Rattle.std.specs.Prelude.{◌≡◌, cond, eqb};
 ghost use Rattle.std.proofs.Math.Option.{some};
 ghost use Rattle.std.specs.Int.Bits.{bit_and, bit_or};

@@ -1,4 +1,6 @@
 // For every set of columns, whether it is safe and which needs it gains: what the diagram and the planner read.
+#![tactic(auto)]
+
 use columns::ALL_SETS;
 use job::{Job, MOST_FORBIDDEN, MOST_MARKS};
 

@@ -1,0 +1,18 @@
+-- `judge::unmet::first_unmet` meets its contract. Assumes nothing.
+use mathlib.Core.Path.{◌≡◌}
+use mathlib.Core.Bool.{not}
+use mathlib.Core.List.{List}
+use Prim.Native.Nat.{◌≤◌, ◌-◌}
+use lib.ListN.{length}
+use Rattle.rules.specs.Needs.{Need, column}
+use Rattle.rules.specs.Splits.{met}
+use Rattle.rules.proofs.Searches.{NoneBefore}
+use Rattle.job.specs.Rows.{StandFor}
+use Rattle.judge.proofs.unmet.first_unmet.Given as goal
+
+abbrev pub invariant-loop-k : goal.invariant-loop-k
+invariant-loop-k l = (l.k ≤ l.count) × (length l.rows ≡ 8)
+    × ((rules : List Need) → length rules ≡ l.count → StandFor l.rows rules → NoneBefore (λ v. not (met l.split v)) (column 0) rules l.k)
+
+abbrev pub decreases-loop-k : goal.decreases-loop-k
+decreases-loop-k l = l.count - l.k
