@@ -1,5 +1,7 @@
 // Two tables beside the one of gains: what the sets within a set gain together, so that a search sees early where nothing can come of it; and
 // the gains of those sets alone that have no column too many, so that it tries no others.
+#![tactic(auto)]
+
 ghost use Rattle.std.specs.Prelude.{◌≡◌, ◌&&◌, ◌≤◌, ◌<◌, ◌^◌, eqb, length};
 ghost use Rattle.rules.specs.Sets.{all_sets, has, without, full};
 ghost use Rattle.parts.specs.Parts.{in_table, Gathers, Leans, Tabled};

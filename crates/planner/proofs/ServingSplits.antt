@@ -31,6 +31,7 @@ module _ (value : ℕ → ℕ) where
   serves_inside (t ∷ split) free unmet e s (Memᴰ.head q) = subst (λ (x : ℕ). Inside free x) (sym q) e.0
   serves_inside (t ∷ split) free unmet e s (Memᴰ.tail m) =
       inside_rest free t s (serves_inside split (without free t) (without unmet (value t)) e.1 s m)
+  serves_inside [] free unmet e s m = elim m [ ]
 
   pub serves_unlinked : (job : Job) (split : List ℕ) (free unmet : ℕ) → Serves value free unmet split → all_unlinked job split ≡ true
   unfolding Serves all_unlinked
@@ -74,6 +75,7 @@ module _ (value : ℕ → ℕ) where
   idle_spared (t ∷ split) free unmet b e s (Memᴰ.tail m) z =
       let rest = idle_spared split (without free t) (without unmet (value t)) (without_below unmet (value t)) e.1 s m z in
       record { others = t ∷ rest.others; serves = (e.0, rest.serves); fewer = ap suc rest.fewer }
+  idle_spared [] free unmet b e s m z = elim m [ ]
 
   -- ---- a list made so serves
 

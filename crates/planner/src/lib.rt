@@ -1,5 +1,7 @@
 // The planner's split of a job: of all correct splits those with fewest extracts, of these those with fewest columns in all, and of these,
 // written as rising numbers, the one whose first differing number is smaller.
+#![tactic(auto)]
+
 ghost use Rattle.std.specs.Prelude.{◌≡◌};
 ghost use Rattle.rules.specs.Plannings.{refused};
 ghost use Rattle.planner.specs.Promises.{planned_of, Plans};
@@ -11,7 +13,7 @@ use job::refusals::{NO_CORRECT_SPLIT, NUMBERS_UNFIT, SLICE_TOO_SHORT};
 pub const MOST_EXTRACTS: usize = 8;
 
 // The refusal's number, or 0 and then how many extracts there are.
-#[derive(Drop)]
+#[derive(Clone, Copy)]
 pub struct Planned {
     pub refusal: u16,
     pub count: u16,

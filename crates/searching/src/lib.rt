@@ -1,5 +1,7 @@
 // The best list of sets that meet all needs: the fewest sets, then the least cost, then the smallest numbers. Which needs a set meets is said
 // by a table, and what it costs by `serve::price`; nothing here looks at a job.
+#![tactic(auto)]
+
 use columns::{ALL_SETS, ColumnSet};
 use serve::Task;
 

@@ -10,7 +10,7 @@ use crate::rarest;
 use columns::{ALL_SETS, ColumnSet};
 
 // What is still to be done: how many sets may be taken, from which columns, for which needs, and what they may cost.
-#[derive(Drop)]
+#[derive(Clone, Copy)]
 pub struct Task {
     pub extracts: u16,
     pub free: ColumnSet,

@@ -1,0 +1,13 @@
+-- `searching::least::cheapest` meets its contract. Assumes nothing.
+use Prim.Native.Nat.{ℕ, ◌-◌, ◌≤◌, ◌<◌}
+use Rattle.parts.specs.Parts.{in_table}
+use Rattle.searching.specs.Serving.{Servable}
+use Rattle.searching.specs.Prices.{price_of}
+use Rattle.searching.proofs.least.cheapest.Given as goal
+
+abbrev pub invariant-loop-low : goal.invariant-loop-low
+invariant-loop-low l = (l.low ≤ l.high) × Servable (in_table l.lean) price_of l.extracts l.free.bits l.unmet l.high
+    × ((less : ℕ) → less < l.low → Servable (in_table l.lean) price_of l.extracts l.free.bits l.unmet less → ⊥) × (l.high ≤ l.initial.high)
+
+abbrev pub decreases-loop-low : goal.decreases-loop-low
+decreases-loop-low l = l.high - l.low

@@ -1,0 +1,7 @@
+-- `searching::serve::price` meets its contract. Assumes nothing.
+use Rattle.searching.specs.Prices.{price_of}
+use Rattle.searching.proofs.serve.price.Goals as goal
+
+pub returns : goal.returns
+unfolding price_of
+returns c = c.count.ensures
