@@ -4,7 +4,7 @@ ghost use Rattle.std.proofs.Math.Option.{none};
 ghost use Rattle.faults.specs.Refused.{refusal_in};
 
 // A refusal's number and place; the number 0 stands for no refusal.
-#[derive(Drop)]
+#[derive(Clone, Copy)]
 pub struct Fault {
     pub number: u16,
     pub place: usize,

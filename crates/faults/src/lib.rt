@@ -1,4 +1,6 @@
 // The first fault of a text that is of the form: too many of something, a name twice or unknown, or another number at the end.
+#![tactic(auto)]
+
 pub mod sections; // sections.rt: where the lines of each kind begin
 pub mod fault; // fault.rt: a refusal's number and place
 mod counts; // counts.rt: more than there may be

@@ -9,7 +9,7 @@ ghost use Rattle.faults.specs.Kinds.{Walks, Sectioned};
 use naming::sections::{Section, key_stands, next_line};
 
 // How many lines there are, and the place behind them.
-#[derive(Drop)]
+#[derive(Clone, Copy)]
 pub struct Walked {
     pub lines: usize,
     pub to: usize,
@@ -31,7 +31,7 @@ pub fn walk(text: &[u8], section: Section, from: usize) -> Walked
 }
 
 // Where the forbid lines, the need lines and the end line begin, and how many forbid and need lines there are.
-#[derive(Drop)]
+#[derive(Clone, Copy)]
 pub struct Places {
     pub forbids: usize,
     pub needs: usize,

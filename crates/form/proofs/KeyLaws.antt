@@ -91,6 +91,7 @@ module _ (behind : Behind) (section : Section) (k b : ℕ) where
       go true e m more = (one, goes_parts one e, refl)
       go false e (Memᴰ.head same) more = absurd (true≢false (sym (goes_all other g) ∙ ap (goes_on behind section k b) same ∙ e))
       go false e (Memᴰ.tail m) more = more m
+  first_found other {others = []} g m = elim m [ ]
 
   -- the one at place i goes on, or the first is to be found behind it
   module _ (others : List Section) (i : ℕ) (last other : Section) (h : i < length others) (is : other ≡ get_or others i last) where

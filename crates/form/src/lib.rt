@@ -1,4 +1,6 @@
 // Whether a text is of the form of a job text, and else the place where it stops being so. What is read later is only read of texts of the form.
+#![tactic(auto)]
+
 use machine::State;
 use naming::sections::Section;
 use order::Behind;
@@ -9,7 +11,7 @@ mod order; // order.rt: which sections may follow which
 
 ghost use Rattle.form.specs.Promises.{Told};
 
-#[derive(Drop)]
+#[derive(Clone, Copy)]
 pub enum Formed {
     Whole, // the text is of the form
     Stops(usize), // refusal 2 with its place

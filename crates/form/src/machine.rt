@@ -13,7 +13,7 @@ use naming::signs::{LINE_END, MOST_BRACKETS, digit, in_name, letter};
 use naming::words::MOST_NAME_BYTES;
 
 // What stands of the end line's number: no digit yet, the digit 0, another one, two digits.
-#[derive(Drop)]
+#[derive(Clone, Copy)]
 pub enum Digits {
     None,
     Zero,
@@ -21,7 +21,7 @@ pub enum Digits {
     Two,
 }
 
-#[derive(Drop)]
+#[derive(Clone, Copy)]
 pub enum State {
     // behind this, so many bytes of a key stand: of this section's, and of every other that begins alike and may stand here
     Key(Section, Behind, usize),

@@ -5,7 +5,7 @@ ghost use Rattle.form.specs.Order.{row as row_of, follows as may_follow, likely 
 use naming::sections::Section;
 
 // What stands before a line.
-#[derive(Drop)]
+#[derive(Clone, Copy)]
 pub enum Behind {
     Nothing, // the text begins
     Line(Section), // a line of this section

@@ -1,5 +1,7 @@
 // The value of a need line, read into the need's marks: an or-list is and-lists joined by |, an and-list is items joined by &, an item is a name or
 // an or-list in brackets. Joins of one kind group from the left, and a join's mark stands behind its operands.
+#![tactic(auto)]
+
 ghost use Rattle.std.specs.Prelude.{length};
 ghost use Rattle.rules.specs.Phrases.{item as item_kind, list, ors, ands};
 ghost use Rattle.phrases.specs.Readers.{Readable, Marked};
@@ -10,7 +12,7 @@ use naming::signs::byte;
 use naming::words::name_end;
 
 // The place behind what was read, and how many marks stand then.
-#[derive(Drop)]
+#[derive(Clone, Copy)]
 pub struct Read {
     pub at: usize,
     pub marked: usize,

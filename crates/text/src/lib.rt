@@ -1,4 +1,6 @@
 // A job text: any bytes in, the refusal with its place or the job out.
+#![tactic(auto)]
+
 use faults::first_fault;
 use faults::sections::sections;
 use form::{Formed, form};
@@ -22,7 +24,7 @@ pub const MOST_BYTES: usize = 8192;
 
 // The refusal's number and place, and a job with no columns, sets or marks; or 0, 0, the job, and the names of its columns, 12 bytes for each. Every
 // place without a number or a byte is 0.
-#[derive(Drop)]
+#[derive(Clone, Copy)]
 pub struct JobRead {
     pub refusal: u16,
     pub place: usize,

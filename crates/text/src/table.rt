@@ -16,7 +16,7 @@ use naming::words::{MOST_NAME_BYTES, name_end, next_name};
 pub const NAMES: usize = 192;
 
 // How many columns there are, and their names. Every place without a byte is 0.
-#[derive(Drop)]
+#[derive(Clone, Copy)]
 pub struct Table {
     pub columns: usize,
     pub names: [u8; NAMES],
