@@ -1,4 +1,6 @@
 // The sentence that a steward gets beside a refusal: where it is, what is wrong there, and what to do.
+#![tactic(auto)]
+
 use job::refusals::{END_NUMBER_OTHER, NO_CORRECT_SPLIT};
 use writing::put;
 

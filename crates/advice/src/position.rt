@@ -6,7 +6,7 @@ ghost use Rattle.advice.specs.Positions.{position_in};
 use naming::signs::LINE_END;
 
 // The line, and the byte in the line, both counted from 1.
-#[derive(Drop)]
+#[derive(Clone, Copy)]
 pub struct Position {
     pub line: usize,
     pub column: usize,

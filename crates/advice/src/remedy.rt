@@ -26,6 +26,7 @@ pub fn put_located(page: &mut [u8], at: usize, position: Position) -> usize
 }
 
 // Puts what is wrong with a text and what to do, by the number of its refusal.
+#[tactic(auto, unfolding(crate::specs::Sentences::remedy))]
 pub fn put_remedy(
     page: &mut [u8],
     at: usize,

@@ -7,7 +7,7 @@ use crate::numbers::less;
 use naming::signs::{LINE_END, MOST_BRACKETS, digit, in_name};
 use naming::words::MOST_NAME_BYTES;
 
-#[derive(Drop)]
+#[derive(Clone, Copy)]
 pub enum Wrong {
     EndsEarly,
     CarriageReturn,

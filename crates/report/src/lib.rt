@@ -1,4 +1,6 @@
 // A job text and what is printed for it: any bytes in, the page out.
+#![tactic(auto)]
+
 use job::Job;
 use job::refusals::SLICE_TOO_SHORT;
 use planner::{MOST_EXTRACTS, Planned, plan};
@@ -18,7 +20,7 @@ ghost use Rattle.report.specs.Promises.{Prints, Reports};
 pub const MOST_PAGE_BYTES: usize = 296;
 
 // The refusal's number and place, or 0 and 0; and how many bytes the page has.
-#[derive(Drop)]
+#[derive(Clone, Copy)]
 pub struct Reported {
     pub refusal: u16,
     pub place: usize,
