@@ -1,5 +1,7 @@
 // The library as C, Rust and Python link it: every public call over numbers and slices alone. A call's answer is a struct or an enum, which is no form that
 // other languages share; so each function here returns the refusal's number and hands out the others one by one.
+#![tactic(auto)]
+
 use job::refusals::SLICE_TOO_SHORT;
 use job::{MOST_FORBIDDEN, MOST_MARKS, copies};
 use text::table::NAMES;
@@ -28,7 +30,7 @@ pub extern "C" fn vjolthar_read(
     marked: &mut usize,
 ) -> u16
     ensures { Hands text.now
-        (record { forbidden = forbidden.entry.now; marks = marks.old; names = names.old })
+        (record { forbidden = forbidden.old; marks = marks.old; names = names.old })
         (record {
           refusal = result;
           place = place.new;
@@ -37,7 +39,7 @@ pub extern "C" fn vjolthar_read(
           needs = needs.new;
           marked = marked.new;
         })
-        (record { forbidden = forbidden.exit.now; marks = marks.new; names = names.new }) }
+        (record { forbidden = forbidden.new; marks = marks.new; names = names.new }) }
 {
     *place = 0;
     *columns = 0;

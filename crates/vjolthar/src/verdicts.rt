@@ -18,7 +18,7 @@ const SHARES: u16 = 3;
 const UNMET: u16 = 4;
 
 // What an answer lacks is 0.
-#[derive(Drop)]
+#[derive(Clone, Copy)]
 pub struct Told {
     pub refusal: u16,
     pub fault: u16,

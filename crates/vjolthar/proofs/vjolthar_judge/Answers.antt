@@ -1,0 +1,7 @@
+-- `vjolthar::vjolthar_judge` meets its contract. Assumes nothing.
+use mathlib.Core.Path.{◌∙◌, ap}
+use Rattle.vjolthar.specs.Verdicts.{told_of}
+use Rattle.vjolthar.proofs.vjolthar_judge.Goals as goal
+
+pub returns : goal.returns
+returns c = c.numbers_of-told.ensures ∙ ap told_of c.judge.ensures
