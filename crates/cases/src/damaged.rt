@@ -2,11 +2,12 @@
 ghost use Rattle.std.specs.Prelude.{◌<◌};
 
 use judge::Verdict;
+use std::io;
 use std::num::wrapping_add_usize;
 use worked::print;
 use worked::random::next;
 
-#[derive(Drop)]
+#[derive(Clone, Copy)]
 struct Counts {
     unfit: usize,
     improper: usize,
@@ -16,7 +17,7 @@ struct Counts {
     right: usize,
 }
 
-#[derive(Drop)]
+#[derive(Clone, Copy)]
 struct Turn {
     state: u64,
     answer: Verdict,
@@ -149,13 +150,13 @@ fn count(turns: usize) -> Counts {
     counts
 }
 
-pub fn run() {
+pub fn run(rt: &impl Print) -> io::Result<()> {
     let counts = count(20000);
-    print::named(b"random numbers: unfit", counts.unfit);
-    print::named(b", improper", counts.improper);
-    print::named(b", forbids", counts.forbids);
-    print::named(b", shares", counts.shares);
-    print::named(b", unmet", counts.unmet);
-    print::named(b", right", counts.right);
-    print::line();
+    print::named(rt, b"random numbers: unfit", counts.unfit)?;
+    print::named(rt, b", improper", counts.improper)?;
+    print::named(rt, b", forbids", counts.forbids)?;
+    print::named(rt, b", shares", counts.shares)?;
+    print::named(rt, b", unmet", counts.unmet)?;
+    print::named(rt, b", right", counts.right)?;
+    print::line(rt)
 }

@@ -1,63 +1,90 @@
 // Each answer of the judge, with the smallest indices; and the mistakes that look right.
 use crate::verdict;
+use std::io;
 
-fn judge(case: &[u8], columns: usize, forbidden: &[u16], marks: &[u16], split: &[u16]) {
-    verdict::write(case, judge::judge(columns, forbidden, marks, split));
+fn judge(
+    rt: &impl Print,
+    case: &[u8],
+    columns: usize,
+    forbidden: &[u16],
+    marks: &[u16],
+    split: &[u16],
+) -> io::Result<()> {
+    verdict::write(rt, case, judge::judge(columns, forbidden, marks, split))
 }
 
 // With forbidden sets alone, with needs alone, or with neither.
-fn judge_sets(case: &[u8], columns: usize, forbidden: &[u16], split: &[u16]) {
-    judge(case, columns, forbidden, &[], split);
+fn judge_sets(
+    rt: &impl Print,
+    case: &[u8],
+    columns: usize,
+    forbidden: &[u16],
+    split: &[u16],
+) -> io::Result<()> {
+    judge(rt, case, columns, forbidden, &[], split)
 }
 
-fn judge_needs(case: &[u8], columns: usize, marks: &[u16], split: &[u16]) {
-    judge(case, columns, &[], marks, split);
+fn judge_needs(
+    rt: &impl Print,
+    case: &[u8],
+    columns: usize,
+    marks: &[u16],
+    split: &[u16],
+) -> io::Result<()> {
+    judge(rt, case, columns, &[], marks, split)
 }
 
-fn judge_split(case: &[u8], columns: usize, split: &[u16]) {
-    judge(case, columns, &[], &[], split);
+fn judge_split(rt: &impl Print, case: &[u8], columns: usize, split: &[u16]) -> io::Result<()> {
+    judge(rt, case, columns, &[], &[], split)
 }
 
-pub fn run() {
-    improper();
-    forbidden();
-    sharing();
-    unmet();
-    right();
+pub fn run(rt: &impl Print) -> io::Result<()> {
+    improper(rt)?;
+    forbidden(rt)?;
+    sharing(rt)?;
+    unmet(rt)?;
+    right(rt)
 }
 
-fn improper() {
-    judge_needs(b"unfit", 2, &[2, 18], &[1]);
-    judge_split(b"unfit before improper", 17, &[0]);
-    judge_split(b"empty extract", 3, &[1, 0, 8]);
-    judge_split(b"missing column", 3, &[1, 8, 0]);
-    judge_sets(b"improper before forbidden", 3, &[1], &[1, 0]);
+fn improper(rt: &impl Print) -> io::Result<()> {
+    judge_needs(rt, b"unfit", 2, &[2, 18], &[1])?;
+    judge_split(rt, b"unfit before improper", 17, &[0])?;
+    judge_split(rt, b"empty extract", 3, &[1, 0, 8])?;
+    judge_split(rt, b"missing column", 3, &[1, 8, 0])?;
+    judge_sets(rt, b"improper before forbidden", 3, &[1], &[1, 0])
 }
 
-fn forbidden() {
-    judge_sets(b"forbidden set", 4, &[8, 2, 1], &[4, 3, 8]);
-    judge_sets(b"forbidden set inside a larger extract", 3, &[3], &[7]);
-    judge_sets(b"part of a forbidden set", 3, &[3], &[2, 4]);
-    judge_sets(b"forbidden before sharing", 3, &[6], &[1, 1, 6]);
+fn forbidden(rt: &impl Print) -> io::Result<()> {
+    judge_sets(rt, b"forbidden set", 4, &[8, 2, 1], &[4, 3, 8])?;
+    judge_sets(rt, b"forbidden set inside a larger extract", 3, &[3], &[7])?;
+    judge_sets(rt, b"part of a forbidden set", 3, &[3], &[2, 4])?;
+    judge_sets(rt, b"forbidden before sharing", 3, &[6], &[1, 1, 6])
 }
 
-fn sharing() {
-    judge_split(b"sharing", 4, &[1, 2, 6, 3]);
-    judge_needs(b"the same extract twice", 2, &[0, 18], &[2, 1, 1]);
-    judge_needs(b"sharing before a need", 3, &[2, 18], &[1, 3]);
-    judge_split(b"3,000 extracts", 16, &[1u16; 3000]);
+fn sharing(rt: &impl Print) -> io::Result<()> {
+    judge_split(rt, b"sharing", 4, &[1, 2, 6, 3])?;
+    judge_needs(rt, b"the same extract twice", 2, &[0, 18], &[2, 1, 1])?;
+    judge_needs(rt, b"sharing before a need", 3, &[2, 18], &[1, 3])?;
+    judge_split(rt, b"3,000 extracts", 16, &[1u16; 3000])
 }
 
-fn unmet() {
-    judge_needs(b"need in no extract", 3, &[0, 18, 2, 18, 1, 18], &[1]);
-    judge(b"need across extracts", 2, &[3], &[0, 1, 16, 18], &[1, 2]);
-    judge(b"need with a choice", 2, &[3], &[0, 1, 17, 18], &[2]);
-    judge_needs(b"no extracts for a need", 1, &[0, 18], &[]);
+fn unmet(rt: &impl Print) -> io::Result<()> {
+    judge_needs(rt, b"need in no extract", 3, &[0, 18, 2, 18, 1, 18], &[1])?;
+    judge(
+        rt,
+        b"need across extracts",
+        2,
+        &[3],
+        &[0, 1, 16, 18],
+        &[1, 2],
+    )?;
+    judge(rt, b"need with a choice", 2, &[3], &[0, 1, 17, 18], &[2])?;
+    judge_needs(rt, b"no extracts for a need", 1, &[0, 18], &[])
 }
 
-fn right() {
-    judge_split(b"no extracts for no needs", 1, &[]);
-    judge_needs(b"more extracts than needed", 3, &[0, 18], &[4, 2, 1]);
-    judge_needs(b"all 16 columns", 16, &[0, 1, 16, 18], &[65535]);
-    judge_needs(b"the last column alone", 16, &[15, 18], &[1, 32768]);
+fn right(rt: &impl Print) -> io::Result<()> {
+    judge_split(rt, b"no extracts for no needs", 1, &[])?;
+    judge_needs(rt, b"more extracts than needed", 3, &[0, 18], &[4, 2, 1])?;
+    judge_needs(rt, b"all 16 columns", 16, &[0, 1, 16, 18], &[65535])?;
+    judge_needs(rt, b"the last column alone", 16, &[15, 18], &[1, 32768])
 }

@@ -1,45 +1,51 @@
 // The examples of the published sources and of 01's program, judged.
 use crate::verdict;
+use std::io;
 use worked::published;
 
-pub fn run() {
-    census_splits();
-    patients_splits();
-    volunteers_splits();
+pub fn run(rt: &impl Print) -> io::Result<()> {
+    census_splits(rt)?;
+    patients_splits(rt)?;
+    volunteers_splits(rt)
 }
 
-fn census_splits() {
+fn census_splits(rt: &impl Print) -> io::Result<()> {
     census(
+        rt,
         b"000, Figure 2: Birth with ZIP, Job with Employer",
         &[12, 48],
-    );
-    census(b"000, Figure 2 merged: against c4", &[60]);
-    census(b"000, Figure 2 without Employer", &[12, 16]);
+    )?;
+    census(rt, b"000, Figure 2 merged: against c4", &[60])?;
+    census(rt, b"000, Figure 2 without Employer", &[12, 16])
 }
 
-fn patients_splits() {
+fn patients_splits(rt: &impl Print) -> io::Result<()> {
     patients(
+        rt,
         b"001, Figure 3.2: Birth, ZIP, Disease; Job, InsRate",
         &[148, 96],
-    );
+    )?;
     patients(
+        rt,
         b"001, locally minimal: Name; Race, Disease; Job, InsRate",
         &[2, 136, 96],
-    );
-    patients(b"001, Name with Disease: against c3", &[130, 96]);
-    patients(b"001, Figure 3.2 merged: against c5", &[244]);
+    )?;
+    patients(rt, b"001, Name with Disease: against c3", &[130, 96])?;
+    patients(rt, b"001, Figure 3.2 merged: against c5", &[244])
 }
 
-fn volunteers_splits() {
-    volunteers(b"01: duty, illness; steward, born, panel", &[24, 35]);
+fn volunteers_splits(rt: &impl Print) -> io::Result<()> {
+    volunteers(rt, b"01: duty, illness; steward, born, panel", &[24, 35])?;
     volunteers(
+        rt,
         b"01, with the home address: against the first set",
         &[24, 39],
-    );
+    )
 }
 
-fn census(case: &[u8], split: &[u16]) {
+fn census(rt: &impl Print, case: &[u8], split: &[u16]) -> io::Result<()> {
     verdict::write(
+        rt,
         case,
         judge::judge(
             6,
@@ -47,11 +53,12 @@ fn census(case: &[u8], split: &[u16]) {
             &published::CENSUS_NEEDS,
             split,
         ),
-    );
+    )
 }
 
-fn patients(case: &[u8], split: &[u16]) {
+fn patients(rt: &impl Print, case: &[u8], split: &[u16]) -> io::Result<()> {
     verdict::write(
+        rt,
         case,
         judge::judge(
             8,
@@ -59,11 +66,12 @@ fn patients(case: &[u8], split: &[u16]) {
             &published::PATIENTS_NEEDS,
             split,
         ),
-    );
+    )
 }
 
-fn volunteers(case: &[u8], split: &[u16]) {
+fn volunteers(rt: &impl Print, case: &[u8], split: &[u16]) -> io::Result<()> {
     verdict::write(
+        rt,
         case,
         judge::judge(
             6,
@@ -71,5 +79,5 @@ fn volunteers(case: &[u8], split: &[u16]) {
             &published::VOLUNTEERS_NEEDS,
             split,
         ),
-    );
+    )
 }

@@ -4,91 +4,118 @@ ghost use Rattle.std.specs.Prelude.{◌≤◌};
 
 use crate::{lent, show};
 use diagram::Listed;
+use std::io;
 use worked::{dense, print, published};
 
-pub fn run() {
-    published();
-    path_places();
-    no_path_places();
-    list_paths(b"dense", 16, &dense::FORBIDDEN, &dense::NEED, 16384, 16384);
+pub fn run(rt: &impl Print) -> io::Result<()> {
+    published(rt)?;
+    path_places(rt)?;
+    no_path_places(rt)?;
+    list_paths(
+        rt,
+        b"dense",
+        16,
+        &dense::FORBIDDEN,
+        &dense::NEED,
+        16384,
+        16384,
+    )
 }
 
 // 000, Figure 10, has the one-paths of the needs v1, v2 and v3 as I3, I1 and I2, those with most free columns first.
-fn published() {
+fn published(rt: &impl Print) -> io::Result<()> {
     each_need(
+        rt,
         b"000",
         6,
         &published::CENSUS_FORBIDDEN,
         &published::CENSUS_NEEDS,
-    );
+    )?;
     each_need(
+        rt,
         b"001",
         8,
         &published::PATIENTS_FORBIDDEN,
         &published::PATIENTS_NEEDS,
-    );
+    )?;
     each_need(
+        rt,
         b"01",
         6,
         &published::VOLUNTEERS_FORBIDDEN,
         &published::VOLUNTEERS_NEEDS,
-    );
+    )
 }
 
 // Three needs, and no need.
-fn each_need(case: &[u8], columns: usize, forbidden: &[u16], marks: &[u16]) {
-    list(case, columns, forbidden, marks, 0);
-    list(case, columns, forbidden, marks, 1);
-    list(case, columns, forbidden, marks, 2);
-    list(case, columns, forbidden, marks, 3);
+fn each_need(
+    rt: &impl Print,
+    case: &[u8],
+    columns: usize,
+    forbidden: &[u16],
+    marks: &[u16],
+) -> io::Result<()> {
+    list(rt, case, columns, forbidden, marks, 0)?;
+    list(rt, case, columns, forbidden, marks, 1)?;
+    list(rt, case, columns, forbidden, marks, 2)?;
+    list(rt, case, columns, forbidden, marks, 3)
 }
 
 // With too few places for the paths the diagram is written all the same.
-fn path_places() {
-    list_two(b"both paths fit", 2, 2);
-    list_two(b"ones one short", 1, 2);
-    list_two(b"zeros one short", 2, 1);
-    list_two(b"zeros longer", 2, 7);
+fn path_places(rt: &impl Print) -> io::Result<()> {
+    list_two(rt, b"both paths fit", 2, 2)?;
+    list_two(rt, b"ones one short", 1, 2)?;
+    list_two(rt, b"zeros one short", 2, 1)?;
+    list_two(rt, b"zeros longer", 2, 7)
 }
 
 // Two paths, one path, and none, which has enough places.
-fn no_path_places() {
-    list_two(b"no place for two", 0, 0);
-    list_paths(b"no place for one", 16, &[], &[], 0, 0);
-    list_paths(b"no place for none", 2, &[3], &[0, 1, 16, 18], 0, 0);
+fn no_path_places(rt: &impl Print) -> io::Result<()> {
+    list_two(rt, b"no place for two", 0, 0)?;
+    list_paths(rt, b"no place for one", 16, &[], &[], 0, 0)?;
+    list_paths(rt, b"no place for none", 2, &[3], &[0, 1, 16, 18], 0, 0)
 }
 
 // A need with two paths, with path slices of these lengths.
-fn list_two(case: &[u8], ones_room: usize, zeros_room: usize)
+fn list_two(rt: &impl Print, case: &[u8], ones_room: usize, zeros_room: usize) -> io::Result<()>
     requires { (ones_room ≤ 16384) × (zeros_room ≤ 16384) }
 {
-    list_paths(case, 2, &[], &[0, 1, 17, 18], ones_room, zeros_room);
+    list_paths(rt, case, 2, &[], &[0, 1, 17, 18], ones_room, zeros_room)
 }
 
 // The first need, or no need where there is none, with path slices of these lengths.
 fn list_paths(
+    rt: &impl Print,
     case: &[u8],
     columns: usize,
     forbidden: &[u16],
     marks: &[u16],
     ones_room: usize,
     zeros_room: usize,
-)
+) -> io::Result<()>
     requires { (ones_room ≤ 16384) × (zeros_room ≤ 16384) }
 {
     list_within(
-        case, columns, forbidden, marks, 0, 8445, 8445, 8445, ones_room, zeros_room,
-    );
+        rt, case, columns, forbidden, marks, 0, 8445, 8445, 8445, ones_room, zeros_room,
+    )
 }
 
-pub fn list(case: &[u8], columns: usize, forbidden: &[u16], marks: &[u16], chosen: usize) {
+pub fn list(
+    rt: &impl Print,
+    case: &[u8],
+    columns: usize,
+    forbidden: &[u16],
+    marks: &[u16],
+    chosen: usize,
+) -> io::Result<()> {
     list_within(
-        case, columns, forbidden, marks, chosen, 8445, 8445, 8445, 16, 16,
-    );
+        rt, case, columns, forbidden, marks, chosen, 8445, 8445, 8445, 16, 16,
+    )
 }
 
 // With slices of these lengths.
 pub fn list_within(
+    rt: &impl Print,
     case: &[u8],
     columns: usize,
     forbidden: &[u16],
@@ -99,7 +126,7 @@ pub fn list_within(
     high_room: usize,
     ones_room: usize,
     zeros_room: usize,
-)
+) -> io::Result<()>
     requires { (column_room ≤ 8445) × (low_room ≤ 8445) × (high_room ≤ 8445) × (ones_room ≤ 16384) × (zeros_room ≤ 16384) }
 {
     let mut column = [lent::BEFORE; 8445];
@@ -108,6 +135,7 @@ pub fn list_within(
     let mut ones = [lent::BEFORE; 16384];
     let mut zeros = [lent::BEFORE; 16384];
     list_into(
+        rt,
         case,
         columns,
         forbidden,
@@ -118,10 +146,11 @@ pub fn list_within(
         &mut high[..high_room],
         &mut ones[..ones_room],
         &mut zeros[..zeros_room],
-    );
+    )
 }
 
 fn list_into(
+    rt: &impl Print,
     case: &[u8],
     columns: usize,
     forbidden: &[u16],
@@ -132,26 +161,33 @@ fn list_into(
     high: &mut [u16],
     ones: &mut [u16],
     zeros: &mut [u16],
-) {
+) -> io::Result<()> {
     let listed = diagram::one_paths(
         columns, forbidden, marks, chosen, column, low, high, ones, zeros,
     );
-    answer(case, chosen, listed);
-    slices(column, low, high, ones, zeros);
+    answer(rt, case, chosen, listed)?;
+    slices(rt, column, low, high, ones, zeros)
 }
 
-fn answer(case: &[u8], chosen: usize, listed: Listed) {
-    print::text(b"one-paths, ");
-    print::text(case);
-    print::named(b", index", chosen);
-    show::drawn(listed.refusal, listed.root, listed.count);
-    print::named(b", paths", listed.paths as usize);
+fn answer(rt: &impl Print, case: &[u8], chosen: usize, listed: Listed) -> io::Result<()> {
+    print::text(rt, b"one-paths, ")?;
+    print::text(rt, case)?;
+    print::named(rt, b", index", chosen)?;
+    show::drawn(rt, listed.refusal, listed.root, listed.count)?;
+    print::named(rt, b", paths", listed.paths as usize)
 }
 
-fn slices(column: &[u16], low: &[u16], high: &[u16], ones: &[u16], zeros: &[u16]) {
-    show::nodes(column, low, high);
-    show::paths(ones, zeros);
+fn slices(
+    rt: &impl Print,
+    column: &[u16],
+    low: &[u16],
+    high: &[u16],
+    ones: &[u16],
+    zeros: &[u16],
+) -> io::Result<()> {
+    show::nodes(rt, column, low, high)?;
+    show::paths(rt, ones, zeros)?;
     let checksum = lent::checksum_of_all(0, column, low, high, ones, zeros);
-    print::named(b", checksum", checksum);
-    print::line();
+    print::named(rt, b", checksum", checksum)?;
+    print::line(rt)
 }

@@ -1,12 +1,13 @@
 // Random fit jobs of up to 10 columns: their diagrams and one-paths, added up.
 use crate::lent;
 use diagram::Listed;
+use std::io;
 use std::num::wrapping_add_usize;
 use worked::random::next;
 use worked::{forming, print};
 
 // What has been added up so far, and where the row of random numbers stands.
-#[derive(Drop)]
+#[derive(Clone, Copy)]
 struct Sums {
     state: u64,
     refusals: usize,
@@ -16,14 +17,14 @@ struct Sums {
     checksum: usize,
 }
 
-pub fn run() {
+pub fn run(rt: &impl Print) -> io::Result<()> {
     let sums = sample(300);
-    print::named(b"300 random jobs: refusals", sums.refusals);
-    print::named(b", roots", sums.roots);
-    print::named(b", counts", sums.counts);
-    print::named(b", paths", sums.paths);
-    print::named(b", checksum", sums.checksum);
-    print::line();
+    print::named(rt, b"300 random jobs: refusals", sums.refusals)?;
+    print::named(rt, b", roots", sums.roots)?;
+    print::named(rt, b", counts", sums.counts)?;
+    print::named(rt, b", paths", sums.paths)?;
+    print::named(rt, b", checksum", sums.checksum)?;
+    print::line(rt)
 }
 
 fn sample(turns: usize) -> Sums {

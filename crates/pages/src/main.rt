@@ -1,32 +1,39 @@
 // Worked cases of what the program `split` writes. Standard input has a case a line, its name and its text; what they give is compared with `stdout`.
+#![tactic(auto)]
+
 mod shown; // shown.rt: one call, and what it leaves
 
 ghost use Rattle.std.specs.Prelude.{◌≤◌, length};
 
-use libc::STDIN_FILENO;
 use naming::words::line_end;
 use spelt::spelling;
+use std::io;
+use worked::input::read_full;
 
-fn main() {
-    let mut input = io::large_buffer();
-    let end = io::read_full(STDIN_FILENO, &mut input);
-    run(&input[..end]);
-    shown::rooms();
+// More bytes than the cases have.
+const MOST_READ: usize = 65536;
+
+fn main(rt: HostRuntime) -> io::Result<()> {
+    let mut input = [0u8; MOST_READ];
+    let end = read_full(&mut rt.stdin(), &mut input)?;
+    run(&rt, &input[..end])?;
+    shown::rooms(&rt)
 }
 
-fn run(input: &[u8]) {
+fn run(rt: &impl Print, input: &[u8]) -> io::Result<()> {
     let mut from = 0;
     while from < input.len() {
-        one_case(input, from);
+        one_case(rt, input, from)?;
         from = line_end(input, from) + 1;
     }
+    Ok(())
 }
 
-fn one_case(input: &[u8], from: usize)
+fn one_case(rt: &impl Print, input: &[u8], from: usize) -> io::Result<()>
     requires { from ≤ length input.now }
 {
     let named = spelling::name_end(input, from);
     let mut text = [0u8; spelling::ROOM];
     let end = spelling::spell(input, named, &mut text);
-    shown::show(&input[from..named], &text[..end]);
+    shown::show(rt, &input[from..named], &text[..end])
 }

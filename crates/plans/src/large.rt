@@ -1,5 +1,6 @@
 // Splits of eight extracts, and jobs of 16 columns.
 use crate::planning::{plan, plan_within};
+use std::io;
 use worked::{dense, typical};
 
 // Every two of the columns 0 to 7.
@@ -23,23 +24,30 @@ const HALVES: [u16; 32] = [
     16, 14, 16, 15, 16, 18,
 ];
 
-pub fn run() {
-    eight_extracts();
-    sixteen_columns();
+pub fn run(rt: &impl Print) -> io::Result<()> {
+    eight_extracts(rt)?;
+    sixteen_columns(rt)
 }
 
-fn eight_extracts() {
-    plan(b"eight extracts of 8 columns", 8, &PAIRS, &COLUMNS);
-    plan_within(b"eight extracts in a slice of 16", 8, &PAIRS, &COLUMNS, 16);
-    plan(b"eight extracts of 16 columns", 16, &PAIRS, &FELLOWS);
+fn eight_extracts(rt: &impl Print) -> io::Result<()> {
+    plan(rt, b"eight extracts of 8 columns", 8, &PAIRS, &COLUMNS)?;
+    plan_within(
+        rt,
+        b"eight extracts in a slice of 16",
+        8,
+        &PAIRS,
+        &COLUMNS,
+        16,
+    )?;
+    plan(rt, b"eight extracts of 16 columns", 16, &PAIRS, &FELLOWS)?;
     // All but the last pair: columns 6 and 7 come together.
     let pairs = PAIRS;
-    plan(b"seven extracts", 8, &pairs[..27], &COLUMNS);
+    plan(rt, b"seven extracts", 8, &pairs[..27], &COLUMNS)
 }
 
-fn sixteen_columns() {
-    plan(b"the last column", 16, &[32767], &[15, 18]);
-    plan(b"all 16 columns in one", 16, &[], &HALVES);
-    plan(b"typical", 16, &typical::FORBIDDEN, &typical::NEEDS);
-    plan(b"dense", 16, &dense::FORBIDDEN, &dense::NEED);
+fn sixteen_columns(rt: &impl Print) -> io::Result<()> {
+    plan(rt, b"the last column", 16, &[32767], &[15, 18])?;
+    plan(rt, b"all 16 columns in one", 16, &[], &HALVES)?;
+    plan(rt, b"typical", 16, &typical::FORBIDDEN, &typical::NEEDS)?;
+    plan(rt, b"dense", 16, &dense::FORBIDDEN, &dense::NEED)
 }

@@ -1,4 +1,5 @@
 // The slice that is lent to a call: what it holds before, and what is told of it after.
+use std::io;
 use worked::print;
 
 // What every place holds before a call. No split of these cases has an extract of this number.
@@ -9,11 +10,12 @@ fn wide(number: u16) -> usize {
 }
 
 // Writes what every place holds.
-pub fn show(numbers: &[u16]) {
-    print::text(b", slice");
+pub fn show(rt: &impl Print, numbers: &[u16]) -> io::Result<()> {
+    print::text(rt, b", slice")?;
     let mut i = 0;
     while i < numbers.len() {
-        print::number(wide(numbers[i]));
+        print::number(rt, wide(numbers[i]))?;
         i += 1;
     }
+    Ok(())
 }

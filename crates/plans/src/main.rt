@@ -1,4 +1,6 @@
 // Worked cases of the planner, run and compared with `stdout`.
+#![tactic(auto)]
+
 mod impossible; // impossible.rt: jobs without a correct split
 mod large; // large.rt: eight extracts, 16 columns, and the limits
 mod lent; // lent.rt: the lent slice before and after a call
@@ -10,13 +12,15 @@ mod sampled; // sampled.rt: random fit jobs
 mod tabled; // tabled.rt: 01's small table
 mod tied; // tied.rt: splits of which only the first in the order is right
 
-fn main() {
-    tabled::run();
-    published::run();
-    impossible::run();
-    tied::run();
-    repeated::run();
-    large::run();
-    refused::run();
-    sampled::run();
+use std::io;
+
+fn main(rt: HostRuntime) -> io::Result<()> {
+    tabled::run(&rt)?;
+    published::run(&rt)?;
+    impossible::run(&rt)?;
+    tied::run(&rt)?;
+    repeated::run(&rt)?;
+    large::run(&rt)?;
+    refused::run(&rt)?;
+    sampled::run(&rt)
 }

@@ -2,26 +2,47 @@
 ghost use Rattle.std.specs.Prelude.{◌≤◌};
 
 use crate::lent;
+use std::io;
 use worked::print;
 
 // With a slice that is just long enough.
-pub fn plan(case: &[u8], columns: usize, forbidden: &[u16], marks: &[u16]) {
-    plan_within(case, columns, forbidden, marks, 8);
+pub fn plan(
+    rt: &impl Print,
+    case: &[u8],
+    columns: usize,
+    forbidden: &[u16],
+    marks: &[u16],
+) -> io::Result<()> {
+    plan_within(rt, case, columns, forbidden, marks, 8)
 }
 
 // With a slice of this length.
-pub fn plan_within(case: &[u8], columns: usize, forbidden: &[u16], marks: &[u16], room: usize)
+pub fn plan_within(
+    rt: &impl Print,
+    case: &[u8],
+    columns: usize,
+    forbidden: &[u16],
+    marks: &[u16],
+    room: usize,
+) -> io::Result<()>
     requires { room ≤ 16 }
 {
     let mut extracts = [lent::BEFORE; 16];
-    plan_into(case, columns, forbidden, marks, &mut extracts[..room]);
+    plan_into(rt, case, columns, forbidden, marks, &mut extracts[..room])
 }
 
-fn plan_into(case: &[u8], columns: usize, forbidden: &[u16], marks: &[u16], extracts: &mut [u16]) {
+fn plan_into(
+    rt: &impl Print,
+    case: &[u8],
+    columns: usize,
+    forbidden: &[u16],
+    marks: &[u16],
+    extracts: &mut [u16],
+) -> io::Result<()> {
     let planned = planner::plan(columns, forbidden, marks, extracts);
-    print::text(case);
-    print::named(b": refusal", planned.refusal as usize);
-    print::named(b", count", planned.count as usize);
-    lent::show(extracts);
-    print::line();
+    print::text(rt, case)?;
+    print::named(rt, b": refusal", planned.refusal as usize)?;
+    print::named(rt, b", count", planned.count as usize)?;
+    lent::show(rt, extracts)?;
+    print::line(rt)
 }

@@ -3,12 +3,13 @@ ghost use Rattle.std.specs.Prelude.{◌<◌, ◌≤◌, length};
 
 use crate::lent;
 use planner::Planned;
+use std::io;
 use std::num::wrapping_add_usize;
 use worked::random::next;
 use worked::{checksum, forming, print};
 
 // What has been added up so far, and where the row of random numbers stands.
-#[derive(Drop)]
+#[derive(Clone, Copy)]
 struct Sums {
     state: u64,
     refusals: usize,
@@ -17,13 +18,13 @@ struct Sums {
 }
 
 // Where the row of random numbers stands when so many marks have been made.
-#[derive(Drop)]
+#[derive(Clone, Copy)]
 struct Formed {
     state: u64,
     marked: usize,
 }
 
-pub fn run() {
+pub fn run(rt: &impl Print) -> io::Result<()> {
     let mut sums = Sums {
         state: 2685821657736338717,
         refusals: 0,
@@ -34,16 +35,17 @@ pub fn run() {
     while jobs < 300 {
         sums = more(sums, 50);
         jobs += 50;
-        show(jobs, sums);
+        show(rt, jobs, sums)?;
     }
+    Ok(())
 }
 
-fn show(jobs: usize, sums: Sums) {
-    print::named(b"random jobs", jobs);
-    print::named(b": refusals", sums.refusals);
-    print::named(b", counts", sums.counts);
-    print::named(b", checksum", sums.checksum);
-    print::line();
+fn show(rt: &impl Print, jobs: usize, sums: Sums) -> io::Result<()> {
+    print::named(rt, b"random jobs", jobs)?;
+    print::named(rt, b": refusals", sums.refusals)?;
+    print::named(rt, b", counts", sums.counts)?;
+    print::named(rt, b", checksum", sums.checksum)?;
+    print::line(rt)
 }
 
 fn more(sums: Sums, jobs: usize) -> Sums {

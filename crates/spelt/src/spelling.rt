@@ -9,7 +9,7 @@ use naming::signs::{LINE_END, byte};
 pub const ROOM: usize = 8200;
 
 // How far the spelling is read, where the last unit began, and how many bytes the text has.
-#[derive(Drop)]
+#[derive(Clone, Copy)]
 struct Spelt {
     at: usize,
     unit: usize,
@@ -124,7 +124,7 @@ fn hex(digit: u8) -> u8
 }
 
 // A number, of which the last four digits count, and the place behind the semicolon that ends it.
-#[derive(Drop)]
+#[derive(Clone, Copy)]
 struct Counted {
     value: usize,
     to: usize,

@@ -1,8 +1,12 @@
 // Which columns may leave the office together: a job text from standard input, its page to standard output and, where the job is refused, a sentence
 // for the steward to standard error.
+#![tactic(auto)]
+
+ghost use Rattle.std.specs.Prelude.{◌≤◌, length};
+
 use advice::advise;
-use libc::{STDERR_FILENO, STDIN_FILENO, STDOUT_FILENO};
 use report::{MOST_PAGE_BYTES, Reported, report};
+use std::io::Read;
 use text::MOST_BYTES;
 
 // One byte more than a text may have tells that it is too long, so no more is read.
@@ -11,28 +15,40 @@ const MOST_READ: usize = MOST_BYTES + 1;
 // Enough for every sentence; of a longer one the end would be missing.
 const MOST_SENTENCE: usize = 256;
 
-fn main() {
+fn main(rt: HostRuntime) {
     let mut text = [0u8; MOST_READ];
-    let length = io::read_full(STDIN_FILENO, &mut text);
-    answer(&text[..length]);
+    let length = read_full(&mut rt.stdin(), &mut text);
+    answer(&rt.stdout(), &rt.stderr(), &text[..length]);
 }
 
-fn answer(text: &[u8]) {
+// Fills a buffer from its first place on, as far as the input goes, and says how many bytes it got. An input that can't be read on ends there.
+fn read_full(input: &mut impl Read, buffer: &mut [u8]) -> usize
+    ensures { result ≤ length buffer.new }
+{
+    let mut done = 0;
+    while done < buffer.len() {
+        let count = input.read(&mut buffer[done..]).unwrap_or(0);
+        if count == 0 {
+            break;
+        }
+        done += count;
+    }
+    done
+}
+
+fn answer(output: &impl Print, errors: &impl Print, text: &[u8]) {
     let mut page = [0u8; MOST_PAGE_BYTES];
     let reported = report(text, &mut page);
-    if !io::write_all(STDOUT_FILENO, &page[..reported.length]) {
-        io::write_all(
-            STDERR_FILENO,
-            b"The answer could not be written to standard output.\n",
-        );
+    if output.write_all(&page[..reported.length]).is_err() {
+        let _ = errors.write_all(b"The answer could not be written to standard output.\n");
     }
     if reported.refusal != 0 {
-        explain(text, reported);
+        explain(errors, text, reported);
     }
 }
 
-fn explain(text: &[u8], reported: Reported) {
+fn explain(errors: &impl Print, text: &[u8], reported: Reported) {
     let mut sentence = [0u8; MOST_SENTENCE];
     let length = advise(text, reported.refusal, reported.place, &mut sentence);
-    io::write_all(STDERR_FILENO, &sentence[..length]);
+    let _ = errors.write_all(&sentence[..length]);
 }

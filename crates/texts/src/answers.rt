@@ -1,47 +1,50 @@
 // One call of the reader and its line: the case, the answer, and a checksum of every number and byte of it.
+use std::io;
 use text::JobRead;
 use worked::{checksum, print};
 
-pub fn show(case: &[u8], given: &[u8]) {
+pub fn show(rt: &impl Print, case: &[u8], given: &[u8]) -> io::Result<()> {
     let read = text::read(given);
-    print::text(case);
+    print::text(rt, case)?;
     if read.refusal != 0 {
-        print::named(b": refusal", read.refusal as usize);
-        print::named(b" at", read.place);
+        print::named(rt, b": refusal", read.refusal as usize)?;
+        print::named(rt, b" at", read.place)?;
     } else {
-        show_job(read);
+        show_job(rt, read)?;
     }
-    print::named(b", checksum", of_answer(0, read));
-    print::line();
+    print::named(rt, b", checksum", of_answer(0, read))?;
+    print::line(rt)
 }
 
-fn show_job(read: JobRead) {
-    print::named(b": columns", read.job.columns as usize);
+fn show_job(rt: &impl Print, read: JobRead) -> io::Result<()> {
+    print::named(rt, b": columns", read.job.columns as usize)?;
     let forbidden = read.job.forbidden;
-    show_first(b", sets", &forbidden, read.job.sets);
+    show_first(rt, b", sets", &forbidden, read.job.sets)?;
     let marks = read.job.marks;
-    show_first(b", marks", &marks, read.job.marked);
+    show_first(rt, b", marks", &marks, read.job.marked)
 }
 
 // Writes the first so many numbers, or none if there are fewer.
-fn show_first(words: &[u8], numbers: &[u16], count: usize) {
-    print::text(words);
+fn show_first(rt: &impl Print, words: &[u8], numbers: &[u16], count: usize) -> io::Result<()> {
+    print::text(rt, words)?;
     if count <= numbers.len() {
-        show_numbers(&numbers[..count]);
+        show_numbers(rt, &numbers[..count])?;
     }
+    Ok(())
 }
 
-fn show_numbers(numbers: &[u16]) {
+fn show_numbers(rt: &impl Print, numbers: &[u16]) -> io::Result<()> {
     let mut i = 0;
     while i < numbers.len() {
-        show_number(numbers[i]);
+        show_number(rt, numbers[i])?;
         i += 1;
     }
+    Ok(())
 }
 
 // A function of its own, because a number from a slice isn't known to fit when it is made wider.
-fn show_number(number: u16) {
-    print::number(number as usize);
+fn show_number(rt: &impl Print, number: u16) -> io::Result<()> {
+    print::number(rt, number as usize)
 }
 
 // The checksum after every number and byte of an answer.

@@ -5,6 +5,7 @@ use crate::answers;
 use naming::signs::{byte, digit, letter};
 use spelt::repeats::put;
 use spelt::spelling::ROOM;
+use std::io;
 use std::num::wrapping_add_usize;
 use text::JobRead;
 use worked::print;
@@ -14,7 +15,7 @@ use worked::random::next;
 const EACH: usize = 60;
 
 // Where the row of random numbers stands, and what has been added up.
-#[derive(Drop)]
+#[derive(Clone, Copy)]
 pub struct Sums {
     pub state: u64,
     pub texts: usize,
@@ -33,12 +34,12 @@ pub fn begin() -> Sums {
     }
 }
 
-pub fn show(sums: Sums) {
-    print::named(b"damaged texts", sums.texts);
-    print::named(b": refusals", sums.refusals);
-    print::named(b", places", sums.places);
-    print::named(b", checksum", sums.checksum);
-    print::line();
+pub fn show(rt: &impl Print, sums: Sums) -> io::Result<()> {
+    print::named(rt, b"damaged texts", sums.texts)?;
+    print::named(rt, b": refusals", sums.refusals)?;
+    print::named(rt, b", places", sums.places)?;
+    print::named(rt, b", checksum", sums.checksum)?;
+    print::line(rt)
 }
 
 // With the damaged texts of one text.

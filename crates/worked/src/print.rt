@@ -1,20 +1,19 @@
 // How cases are written: text, numbers and line ends to standard output.
-use libc::STDOUT_FILENO;
+use std::io;
 
-pub fn text(words: &[u8]) {
-    io::write_all(STDOUT_FILENO, words);
+pub fn text(rt: &impl Print, words: &[u8]) -> io::Result<()> {
+    rt.write_all(words)
 }
 
-pub fn number(value: usize) {
-    io::write_all(STDOUT_FILENO, b" ");
-    io::print_decimal(STDOUT_FILENO, value as u64);
+pub fn number(rt: &impl Print, value: usize) -> io::Result<()> {
+    print!(rt; " {value}")
 }
 
-pub fn named(words: &[u8], value: usize) {
-    text(words);
-    number(value);
+pub fn named(rt: &impl Print, words: &[u8], value: usize) -> io::Result<()> {
+    text(rt, words)?;
+    number(rt, value)
 }
 
-pub fn line() {
-    io::write_all(STDOUT_FILENO, b"\n");
+pub fn line(rt: &impl Print) -> io::Result<()> {
+    text(rt, b"\n")
 }
