@@ -71,7 +71,7 @@ def zip_all(ones, others):
 
 def same_functions():
     declared = functions(HEADER, r"uint16_t (\w+)\((.*?)\);")
-    crate = functions(open("crates/vjolthar/src/lib.rt").read(), r'pub extern "C" fn (\w+)\((.*?)\) -> u16')
+    crate = functions(open("crates/vjolthar_c/src/lib.rt").read(), r'pub extern "C" fn (\w+)\((.*?)\) -> u16')
     rust = functions(RUST, r"pub fn (\w+)\((.*?)\) -> u16;")
     differences = []
     for name in sorted(declared.keys() | crate.keys() | rust.keys()):

@@ -2,6 +2,7 @@
 use mathlib.Core.Path.{◌≡◌, refl, sym, ap}
 use mathlib.Core.Bool.{Bool, true, false, not, cond, ◌&&◌, ◌||◌, true≢false, false≢true, or_assoc}
 use mathlib.Core.List.{List, [], ◌∷◌}
+use mathlib.Core.Logic.{◌⊎◌, inl, inr}
 use mathlib.Core.Option.{some, bind-eq-some_iff, some-injective, none-ne-some}
 use Prim.Native.Nat.{ℕ, suc, ◌+◌, ◌-◌, ◌*◌, ◌≤◌, ◌<◌}
 use native.Mathlib.Numerals.{add-one}
@@ -135,6 +136,14 @@ before_part marks i to e =
 
 abbrev pub is_join : ℕ → Bool
 is_join m = eqb m and_mark || eqb m or_mark
+
+-- a mark is told for a join by two tests, one behind the other
+pub join_test : (m : ℕ) → (m ≡ and_mark) ⊎ ((m ≡ and_mark → ⊥) × m ≡ or_mark) → is_join m ≡ true
+join_test m (inl a) = rw a
+join_test m (inr b) = rw b.1
+
+pub not_join : (m : ℕ) → (m ≡ and_mark → ⊥) → (m ≡ or_mark → ⊥) → is_join m ≡ false
+not_join m a b = rw (ne_eqb m and_mark a, ne_eqb m or_mark b)
 
 pub after_column : (m : ℕ) (vs : List Need) → is_join m ≡ false → after m vs ≡ some (column m ∷ vs)
 unfolding after

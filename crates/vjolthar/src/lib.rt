@@ -1,5 +1,5 @@
-// The library as C, Rust and Python link it: every public call over numbers and slices alone. A call's answer is a struct or an enum, which is no form that
-// other languages share; so each function here returns the refusal's number and hands out the others one by one.
+// The library as other languages call it, by the exports of `vjolthar_c`: every public call over numbers and slices alone. A call's answer is a struct or an
+// enum, which is no form that other languages share; so each function here returns the refusal's number and hands out the others one by one.
 #![tactic(auto)]
 
 use job::refusals::SLICE_TOO_SHORT;
@@ -17,8 +17,7 @@ ghost use Rattle.vjolthar.specs.Verdicts.{Tells};
 ghost use Rattle.vjolthar.specs.Handed.{Hands};
 
 // `text::read`. The job that was read is written over the first 32, 512 and 192 places of the slices, its unused places too.
-#[unsafe(no_mangle)]
-pub extern "C" fn vjolthar_read(
+pub fn vjolthar_read(
     text: &[u8],
     forbidden: &mut [u16],
     marks: &mut [u16],
@@ -72,8 +71,7 @@ pub extern "C" fn vjolthar_read(
 }
 
 // `diagram::diagram`
-#[unsafe(no_mangle)]
-pub extern "C" fn vjolthar_diagram(
+pub fn vjolthar_diagram(
     columns: usize,
     forbidden: &[u16],
     marks: &[u16],
@@ -96,8 +94,7 @@ pub extern "C" fn vjolthar_diagram(
 }
 
 // `diagram::one_paths`
-#[unsafe(no_mangle)]
-pub extern "C" fn vjolthar_one_paths(
+pub fn vjolthar_one_paths(
     columns: usize,
     forbidden: &[u16],
     marks: &[u16],
@@ -129,8 +126,7 @@ pub extern "C" fn vjolthar_one_paths(
 
 // `judge::judge`. The fault is 0 for right, 1 for an extract that is empty or names a missing column, 2 for a forbidden set contained, 3 for a column shared,
 // 4 for a need that is not met; `first` and `second` are its values.
-#[unsafe(no_mangle)]
-pub extern "C" fn vjolthar_judge(
+pub fn vjolthar_judge(
     columns: usize,
     forbidden: &[u16],
     marks: &[u16],
@@ -150,8 +146,7 @@ pub extern "C" fn vjolthar_judge(
 }
 
 // `planner::plan`
-#[unsafe(no_mangle)]
-pub extern "C" fn vjolthar_plan(
+pub fn vjolthar_plan(
     columns: usize,
     forbidden: &[u16],
     marks: &[u16],
@@ -167,13 +162,7 @@ pub extern "C" fn vjolthar_plan(
 }
 
 // `report::report`
-#[unsafe(no_mangle)]
-pub extern "C" fn vjolthar_report(
-    text: &[u8],
-    page: &mut [u8],
-    place: &mut usize,
-    length: &mut usize,
-) -> u16
+pub fn vjolthar_report(text: &[u8], page: &mut [u8], place: &mut usize, length: &mut usize) -> u16
     ensures { Reports text.now page.old
         (record { refusal = result; place = place.new; length = length.new }) page.new }
 {

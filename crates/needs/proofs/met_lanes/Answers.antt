@@ -1,24 +1,11 @@
 -- `needs::met_lanes` meets its contract. The loop's invariant: where the row is a need, the operands so far have their words of lanes,
 -- and the marks that are left lead from them to the need. Assumes nothing.
-use mathlib.Core.Path.{◌≡◌}
-use mathlib.Core.Logic.{◌⊎◌, inl, inr}
-use mathlib.Core.Bool.{true, false}
-use Prim.Native.Nat.{ℕ}
 use native.Mathlib.Omega.{arith}
-use borrow.Author.Tests.{ne_eqb}
-use Rattle.rules.proofs.Marks.{is_join, before_here, before_past}
+use Rattle.rules.proofs.Marks.{before_here, before_past, join_test, not_join}
 use Rattle.needs.proofs.Operands.{read_none, read_all, read_column, read_join, read_no_join}
 use Rattle.std.proofs.Common.{rules}
 use Rattle.needs.proofs.met_lanes.Goals.{then-mark-eq-OR_MARK+then-count-gt1, then-mark-eq-OR_MARK+else-count-gt1, else-mark-eq-OR_MARK, else-loop-i-test, then-loop-i-test+then-mark-eq-END_MARK}
 use Rattle.needs.proofs.met_lanes.Goals as goal
-
--- the code's test of a mark, by || of two tests, is the test of a join
-join_test : (m : ℕ) → (m ≡ 16) ⊎ ((m ≡ 16 → ⊥) × m ≡ 17) → is_join m ≡ true
-join_test m (inl a) = rw a
-join_test m (inr b) = rw b.1
-
-no_join : (m : ℕ) → (m ≡ 16 → ⊥) → (m ≡ 17 → ⊥) → is_join m ≡ false
-no_join m a b = rw (ne_eqb m 16 a, ne_eqb m 17 b)
 
 pub loop-i-init : goal.loop-i-init
 loop-i-init c = read_none c.args.block c.args.row.now _ (search rules) (search rules)
@@ -35,7 +22,7 @@ loop-i-preserved c =
       | else-mark-eq-OR_MARK w ↦
           let other = w.if-mark-eq-OR_MARK.false in
           rw (w.operands-is, w.count-is)
-          (read_column l.invariant (omega arith) n w.column_lanes.result (no_join _ other.0 other.1) w.column_lanes.ensures)
+          (read_column l.invariant (omega arith) n w.column_lanes.result (not_join _ other.0 other.1) w.column_lanes.ensures)
     ]
 
 pub returns : goal.returns

@@ -1,3 +1,4 @@
+-- `pages::run` is safe and ends. Assumes nothing.
 use Rattle.std.proofs.Common.{length, ◌≤◌, ◌+◌, ◌-◌}
 use Rattle.pages.proofs.run.Given as goal
 

@@ -1,3 +1,4 @@
+-- `split::answer` is safe and ends. Assumes nothing.
 use lib.Seq.{length-take-le}
 use Rattle.report.proofs.Answers.{length_within}
 use Rattle.std.proofs.Common.{sym}

@@ -1,3 +1,4 @@
+-- `texts::run` is safe and ends. Assumes nothing.
 use Rattle.std.proofs.Common.{length, ◌≤◌, ◌+◌, ◌-◌}
 use Rattle.texts.proofs.run.Given as goal
 

@@ -1,3 +1,4 @@
+-- `cases::damaged::count` is safe and ends. Assumes nothing.
 use Rattle.std.proofs.Common.{◌≤◌, ◌-◌}
 use Rattle.cases.proofs.damaged.count.Given as goal
 

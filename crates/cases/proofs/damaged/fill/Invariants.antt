@@ -1,3 +1,4 @@
+-- `cases::damaged::fill` is safe and ends. Assumes nothing.
 use Rattle.std.proofs.Common.{length, ◌≤◌, ◌-◌}
 use Rattle.cases.proofs.damaged.fill.Given as goal
 

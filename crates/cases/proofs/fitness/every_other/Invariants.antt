@@ -1,3 +1,4 @@
+-- `cases::fitness::every_other` is safe and ends. Assumes nothing.
 use Rattle.std.proofs.Common.{length, ◌-◌}
 use Rattle.cases.proofs.fitness.every_other.Given as goal
 

@@ -1,3 +1,4 @@
+-- `drawings::lent::untouched` is safe and ends. Assumes nothing.
 use Rattle.std.proofs.Common.{length, ◌≤◌, ◌-◌}
 use Rattle.drawings.proofs.lent.untouched.Given as goal
 

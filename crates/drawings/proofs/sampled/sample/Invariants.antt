@@ -1,3 +1,4 @@
+-- `drawings::sampled::sample` is safe and ends. Assumes nothing.
 use Rattle.std.proofs.Common.{◌≤◌, ◌-◌}
 use Rattle.drawings.proofs.sampled.sample.Given as goal
 

@@ -1,3 +1,4 @@
+-- `drawings::show::nodes` is safe and ends. Assumes nothing.
 use Rattle.std.proofs.Common.{◌≤◌, ◌-◌}
 use Rattle.drawings.proofs.show.nodes.Given as goal
 

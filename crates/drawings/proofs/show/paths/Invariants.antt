@@ -1,3 +1,4 @@
+-- `drawings::show::paths` is safe and ends. Assumes nothing.
 use Rattle.std.proofs.Common.{◌≤◌, ◌-◌}
 use Rattle.drawings.proofs.show.paths.Given as goal
 

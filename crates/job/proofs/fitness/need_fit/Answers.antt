@@ -1,25 +1,15 @@
 -- `job::fitness::need_fit` meets its contract. The invariant: whether the need is fit follows from what is known after i marks. Assumes nothing.
-use mathlib.Core.Path.{sym, ◌∙◌, ◌≡◌}
-use mathlib.Core.Logic.{◌⊎◌, inl, inr}
-use mathlib.Core.Bool.{true, false}
-use Prim.Native.Nat.{ℕ, ◌≤◌}
+use mathlib.Core.Path.{sym, ◌∙◌}
+use Prim.Native.Nat.{◌≤◌}
 use native.Mathlib.Omega.{arith}
 use lib.Dec.{ltb}
 use lib.ListN.{get_or}
 use borrow.Author.Tests.{ne_eqb}
-use Rattle.rules.proofs.Marks.{is_join}
+use Rattle.rules.proofs.Marks.{join_test, not_join}
 use Rattle.job.proofs.Findings.{left_start, left_unfit, left_few, left_join, left_column, left_end, one_most}
 use Rattle.std.proofs.Common.{rules}
 use Rattle.job.proofs.fitness.need_fit.Goals.{then-mark-eq-OR_MARK+else-operands-lt2, else-mark-eq-OR_MARK}
 use Rattle.job.proofs.fitness.need_fit.Goals as goal
-
--- the code's test of a mark, by || of two tests, is the test of a join
-join_test : (m : ℕ) → (m ≡ 16) ⊎ ((m ≡ 16 → ⊥) × m ≡ 17) → is_join m ≡ true
-join_test m (inl a) = rw a
-join_test m (inr b) = rw b.1
-
-no_join : (m : ℕ) → (m ≡ 16 → ⊥) → (m ≡ 17 → ⊥) → is_join m ≡ false
-no_join m a b = rw (ne_eqb m 16 a, ne_eqb m 17 b)
 
 pub loop-i-init : goal.loop-i-init
 loop-i-init c = (search rules, search rules, left_start _ _)
@@ -52,7 +42,7 @@ loop-i-preserved c =
         omega arith,
         omega arith,
         rw (c.column_marks-named.ensures, w.operands-is)
-            (left_column l.invariant.2 more fit (no_join _ w.if-mark-eq-OR_MARK.false.0 w.if-mark-eq-OR_MARK.false.1)),
+            (left_column l.invariant.2 more fit (not_join _ w.if-mark-eq-OR_MARK.false.0 w.if-mark-eq-OR_MARK.false.1)),
       )
     ]
 

@@ -1,3 +1,4 @@
+-- `pages::shown::kept` is safe and ends. Assumes nothing.
 use Rattle.std.proofs.Common.{length, ◌-◌}
 use Rattle.pages.proofs.shown.kept.Given as goal
 

@@ -1,3 +1,4 @@
+-- `pages::shown::show_page` is safe and ends. Assumes nothing.
 use lib.Seq.{length-take-le}
 use Rattle.report.proofs.Answers.{length_within}
 use Rattle.std.proofs.Common.{sym}

@@ -1,3 +1,4 @@
+-- `plans::lent::show` is safe and ends. Assumes nothing.
 use Rattle.std.proofs.Common.{length, ◌≤◌, ◌-◌}
 use Rattle.plans.proofs.lent.show.Given as goal
 

@@ -1,3 +1,4 @@
+-- `plans::sampled::form_needs` is safe and ends. Assumes nothing.
 use Rattle.std.proofs.Common.{◌≤◌, ◌*◌, ◌-◌}
 use Rattle.plans.proofs.sampled.form_needs.Given as goal
 

@@ -1,3 +1,4 @@
+-- `plans::sampled::more` is safe and ends. Assumes nothing.
 use Rattle.std.proofs.Common.{◌≤◌, ◌-◌}
 use Rattle.plans.proofs.sampled.more.Given as goal
 

@@ -1,3 +1,4 @@
+-- `plans::sampled::run` is safe and ends. Assumes nothing.
 use Rattle.std.proofs.Common.{◌≤◌, ◌-◌}
 use Rattle.plans.proofs.sampled.run.Given as goal
 

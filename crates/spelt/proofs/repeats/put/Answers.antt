@@ -1,3 +1,4 @@
+-- `spelt::repeats::put` is safe and ends, and stays within the text. Assumes nothing.
 use Rattle.writing.proofs.Adding.{adds_within}
 use Rattle.spelt.proofs.repeats.put.Goals as goal
 

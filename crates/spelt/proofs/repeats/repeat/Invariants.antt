@@ -1,3 +1,4 @@
+-- `spelt::repeats::repeat` is safe and ends. Assumes nothing.
 use Rattle.std.proofs.Common.{length, ◌-◌, ◌≤◌}
 use Rattle.spelt.proofs.repeats.repeat.Given as goal
 

@@ -1,3 +1,4 @@
+-- `spelt::spelling::decimal` is safe and ends. Assumes nothing.
 use Rattle.std.proofs.Common.{length, ◌-◌, ◌+◌, ◌≤◌, ◌<◌}
 use Rattle.spelt.proofs.spelling.decimal.Given as goal
 

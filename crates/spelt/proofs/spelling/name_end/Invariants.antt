@@ -1,3 +1,4 @@
+-- `spelt::spelling::name_end` is safe and ends. Assumes nothing.
 use Rattle.std.proofs.Common.{length, ◌-◌, ◌≤◌}
 use Rattle.spelt.proofs.spelling.name_end.Given as goal
 

@@ -1,3 +1,4 @@
+-- `spelt::spelling::spell` is safe and ends. Assumes nothing.
 use Rattle.std.proofs.Common.{length, ◌-◌, ◌≤◌}
 use Rattle.spelt.proofs.spelling.spell.Given as goal
 

@@ -1,3 +1,4 @@
+-- `texts::answers::of_bytes` is safe and ends. Assumes nothing.
 use Rattle.std.proofs.Common.{length, ◌≤◌, ◌-◌}
 use Rattle.texts.proofs.answers.of_bytes.Given as goal
 

@@ -1,3 +1,4 @@
+-- `texts::answers::show_numbers` is safe and ends. Assumes nothing.
 use Rattle.std.proofs.Common.{length, ◌≤◌, ◌-◌}
 use Rattle.texts.proofs.answers.show_numbers.Given as goal
 

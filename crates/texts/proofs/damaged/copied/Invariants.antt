@@ -1,3 +1,4 @@
+-- `texts::damaged::copied` is safe and ends. Assumes nothing.
 use Rattle.std.proofs.Common.{length, ◌≤◌, ◌-◌}
 use Rattle.texts.proofs.damaged.copied.Given as goal
 

@@ -1,3 +1,4 @@
+-- `texts::damaged::more` is safe and ends. Assumes nothing.
 use Rattle.std.proofs.Common.{◌≤◌, ◌-◌}
 use Rattle.texts.proofs.damaged.more.Given as goal
 

@@ -1,3 +1,4 @@
+-- `worked::checksum::over` is safe and ends. Assumes nothing.
 use Rattle.std.proofs.Common.{length, ◌-◌, ◌≤◌}
 use Rattle.worked.proofs.checksum.over.Given as goal
 

@@ -1,3 +1,4 @@
+-- `worked::forming::form_need` is safe and ends. Assumes nothing.
 use Rattle.std.proofs.Common.{◌-◌, ◌≤◌}
 use Rattle.worked.proofs.forming.form_need.Given as goal
 

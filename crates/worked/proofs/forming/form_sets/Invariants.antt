@@ -1,3 +1,4 @@
+-- `worked::forming::form_sets` is safe and ends. Assumes nothing.
 use Rattle.std.proofs.Common.{length, ◌-◌, ◌≤◌}
 use Rattle.worked.proofs.forming.form_sets.Given as goal
 
