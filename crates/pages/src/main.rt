@@ -5,17 +5,18 @@ mod shown; // shown.rt: one call, and what it leaves
 
 ghost use Rattle.std.specs.Prelude.{◌≤◌, length};
 
+use intake::fill;
 use naming::words::line_end;
 use spelt::spelling;
 use std::io;
-use worked::input::read_full;
 
 // More bytes than the cases have.
 const MOST_READ: usize = 65536;
 
 fn main(rt: HostRuntime) -> io::Result<()> {
     let mut input = [0u8; MOST_READ];
-    let end = read_full(&mut rt.stdin(), &mut input)?;
+    let (end, outcome) = fill(&mut rt.stdin(), &mut input);
+    outcome?;
     run(&rt, &input[..end])?;
     shown::rooms(&rt)
 }

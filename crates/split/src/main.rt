@@ -2,11 +2,9 @@
 // for the steward to standard error.
 #![tactic(auto)]
 
-ghost use Rattle.std.specs.Prelude.{◌≤◌, length};
-
 use advice::advise;
+use intake::fill;
 use report::{MOST_PAGE_BYTES, Reported, report};
-use std::io::Read;
 use text::MOST_BYTES;
 
 // One byte more than a text may have tells that it is too long, so no more is read.
@@ -17,23 +15,9 @@ const MOST_SENTENCE: usize = 256;
 
 fn main(rt: HostRuntime) {
     let mut text = [0u8; MOST_READ];
-    let length = read_full(&mut rt.stdin(), &mut text);
+    // An input that can't be read on ends there.
+    let (length, _) = fill(&mut rt.stdin(), &mut text);
     answer(&rt.stdout(), &rt.stderr(), &text[..length]);
-}
-
-// Fills a buffer from its first place on, as far as the input goes, and says how many bytes it got. An input that can't be read on ends there.
-fn read_full(input: &mut impl Read, buffer: &mut [u8]) -> usize
-    ensures { result ≤ length buffer.new }
-{
-    let mut done = 0;
-    while done < buffer.len() {
-        let count = input.read(&mut buffer[done..]).unwrap_or(0);
-        if count == 0 {
-            break;
-        }
-        done += count;
-    }
-    done
 }
 
 fn answer(output: &impl Print, errors: &impl Print, text: &[u8]) {
