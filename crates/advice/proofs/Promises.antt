@@ -2,7 +2,7 @@
 use mathlib.Core.Path.{◌≡◌, refl, sym, ap, subst, ◌∙◌}
 use mathlib.Core.Logic.{◌⊎◌, inl, inr}
 use mathlib.Core.List.{List, [], ◌∷◌, ◌++◌, Memᴰ}
-use mathlib.Core.Option.{Option, none, some, map, or_else, some-injective, none-ne-some}
+use Rattle.rules.proofs.Options.{Option, None, Some, option_map, option_or, some-injective, none-ne-some}
 use Prim.Native.Nat.{ℕ, zero, suc, ◌<◌}
 use native.Mathlib.Omega.{arith}
 use lib.ListN.{drop}
@@ -48,12 +48,12 @@ place_of e = ap (λ (f : Refusal). f.place) e
 
 -- of need lines of which k may stand the one after those is at place p, or the first name too many of one is
 data NeedAt (k : ℕ) (lines : List (Line Formula)) (p : ℕ) : Type 0 where
-  line_at : {l : Line Formula} → first_of (drop k lines) ≡ some l → l.place ≡ p → NeedAt k lines p
-  name_at_lem : {l : Line Formula} {x : Spot} → Memᴰ l lines → first_of (drop most_column_marks (names_in l.value)) ≡ some x → x.place ≡ p
+  line_at : {l : Line Formula} → first_of (drop k lines) ≡ Some l → l.place ≡ p → NeedAt k lines p
+  name_at_lem : {l : Line Formula} {x : Spot} → Memᴰ l lines → first_of (drop most_column_marks (names_in l.value)) ≡ Some x → x.place ≡ p
       → NeedAt k lines p
 
-need_at : {p : ℕ} (k : ℕ) (lines : List (Line Formula)) → needs_over k lines ≡ some p → NeedAt k lines p
-unfolding needs_over name_after first_of or_else
+need_at : {p : ℕ} (k : ℕ) (lines : List (Line Formula)) → needs_over k lines ≡ Some p → NeedAt k lines p
+unfolding needs_over name_after first_of
 need_at {p} zero [] e = absurd (none-ne-some p e)
 need_at zero (l ∷ lines) e = line_at refl (some-injective _ _ e)
 need_at {p} (suc k) [] e = absurd (none-ne-some p e)
@@ -64,24 +64,24 @@ need_at {p} (suc k) (l ∷ lines) e = go (first_of (drop most_column_marks (name
     later (name_at_lem m h q) = name_at_lem (Memᴰ.tail m) h q
 
     go : (o : Option Spot) → first_of (drop most_column_marks (names_in l.value)) ≡ o
-        → or_else (map (λ x. x.place) o) (needs_over k lines) ≡ some p → (needs_over k lines ≡ some p → NeedAt k lines p)
+        → option_or (option_map (λ x. x.place) o) (needs_over k lines) ≡ Some p → (needs_over k lines ≡ Some p → NeedAt k lines p)
         → NeedAt (suc k) (l ∷ lines) p
-    go (some x) h f more = name_at_lem (Memᴰ.head refl) h (some-injective _ _ f)
-    go none h f more = later (more f)
+    go (Some x) h f more = name_at_lem (Memᴰ.head refl) h (some-injective _ _ f)
+    go None h f more = later (more f)
 
 -- what is too many at place p, and where it is: the 17th column in line 1, the 33rd forbid line or the 9th need line at its key, and the 33rd name of a
 -- need inside another line
 pub data TooManyAt (s : List ℕ) (sheet : Sheet) (p : ℕ) : Type 0 where
-  late_column : {x : Spot} → first_of (drop most_columns sheet.columns) ≡ some x → x.place ≡ p → (position_of s p).line ≡ 1 → TooManyAt s sheet p
-  late_forbid : {l : Line (List Spot)} → first_of (drop most_forbidden sheet.forbids) ≡ some l → l.place ≡ p → 1 < (position_of s p).line
+  late_column : {x : Spot} → first_of (drop most_columns sheet.columns) ≡ Some x → x.place ≡ p → (position_of s p).line ≡ 1 → TooManyAt s sheet p
+  late_forbid : {l : Line (List Spot)} → first_of (drop most_forbidden sheet.forbids) ≡ Some l → l.place ≡ p → 1 < (position_of s p).line
       → (position_of s p).column ≡ 1 → Says s p (key_of Forbid) → TooManyAt s sheet p
-  late_need : {l : Line Formula} → first_of (drop most_needs sheet.needs) ≡ some l → l.place ≡ p → 1 < (position_of s p).line
+  late_need : {l : Line Formula} → first_of (drop most_needs sheet.needs) ≡ Some l → l.place ≡ p → 1 < (position_of s p).line
       → (position_of s p).column ≡ 1 → Says s p (key_of Need) → TooManyAt s sheet p
-  late_name : {l : Line Formula} {x : Spot} → Memᴰ l sheet.needs → first_of (drop most_column_marks (names_in l.value)) ≡ some x → x.place ≡ p
+  late_name : {l : Line Formula} {x : Spot} → Memᴰ l sheet.needs → first_of (drop most_column_marks (names_in l.value)) ≡ Some x → x.place ≡ p
       → 1 < (position_of s p).line → 1 < (position_of s p).column → TooManyAt s sheet p
 
-late_at : {s : List ℕ} {sheet : Sheet} {p : ℕ} → OfForm s sheet → first_over sheet ≡ some p → TooManyAt s sheet p
-unfolding first_over name_after line_after or_else
+late_at : {s : List ℕ} {sheet : Sheet} {p : ℕ} → OfForm s sheet → first_over sheet ≡ Some p → TooManyAt s sheet p
+unfolding first_over name_after line_after
 late_at {s} {sheet} {p} form found = at_column (first_of (drop most_columns sheet.columns)) refl found
   where
     at_need : NeedAt most_needs sheet.needs p → TooManyAt s sheet p
@@ -95,28 +95,28 @@ late_at {s} {sheet} {p} form found = at_column (first_of (drop most_columns shee
         late_name m f q (rw (sym q) (omega (arith, stands.late, named.line))) (rw (sym q) named.column)
 
     at_forbid : (o : Option (Line (List Spot))) → first_of (drop most_forbidden sheet.forbids) ≡ o
-        → or_else (map (λ l. l.place) o) (needs_over most_needs sheet.needs) ≡ some p → TooManyAt s sheet p
-    at_forbid (some l) f e =
+        → option_or (option_map (λ l. l.place) o) (needs_over most_needs sheet.needs) ≡ Some p → TooManyAt s sheet p
+    at_forbid (Some l) f e =
         let q = some-injective _ _ e in
         let stands = forbid_stands form (after_in most_forbidden sheet.forbids f) in
         late_forbid f q (rw (sym q) (omega (arith, stands.late, stands.begins.line))) (rw (sym q) stands.begins.column)
         (rw (sym q) stands.said)
-    at_forbid none f e = at_need (need_at most_needs sheet.needs e)
+    at_forbid None f e = at_need (need_at most_needs sheet.needs e)
 
     at_column : (o : Option Spot) → first_of (drop most_columns sheet.columns) ≡ o
-        → or_else (map (λ x. x.place) o) (or_else (line_after most_forbidden sheet.forbids) (needs_over most_needs sheet.needs)) ≡ some p
+        → option_or (option_map (λ x. x.place) o) (option_or (line_after most_forbidden sheet.forbids) (needs_over most_needs sheet.needs)) ≡ Some p
         → TooManyAt s sheet p
-    at_column (some x) f e =
+    at_column (Some x) f e =
         let q = some-injective _ _ e in
         late_column f q (rw (sym q) (column_stands form (after_in most_columns sheet.columns f)).line)
-    at_column none f e = at_forbid (first_of (drop most_forbidden sheet.forbids)) refl e
+    at_column None f e = at_forbid (first_of (drop most_forbidden sheet.forbids)) refl e
 
 -- so the line, the column and the key at the place tell which of the four it is
 pub too_many_told : {s : List ℕ} {p : ℕ} → Reads s (refused too_many_parts p) → (sheet : Sheet) → OfForm s sheet → TooManyAt s sheet p
 too_many_told {s} {p} h sheet form = from (refused_fault (omega arith) h sheet form) refl
   where
     from : {f : Refusal} → HasFault sheet f → f ≡ refusal too_many_parts p → TooManyAt s sheet p
-    from (too_many a b) e = late_at form (over_found form a b ∙ ap (λ (k : ℕ). some k) (place_of e))
+    from (too_many a b) e = late_at form (over_found form a b ∙ ap (λ (k : ℕ). Some k) (place_of e))
     from (name_wrong a b c) e = absurd (omega (arith, (name_number sheet b).0, number_of e))
     from (end_wrong a b c) e = absurd (omega (arith, number_of e))
 

@@ -1,8 +1,7 @@
 -- More than there may be: what is left of a count. Assumes nothing.
 use mathlib.Core.Path.{◌≡◌, refl, ◌∙◌}
 use mathlib.Core.List.{List, [], ◌∷◌, map}
-use mathlib.Core.Option
-use mathlib.Core.Option.{Option, none, some, or_else, map-eq-none_iff}
+use Rattle.rules.proofs.Options.{Option, None, Some, option_or, map-eq-none_iff, option_map}
 use Prim.Native.Nat.{ℕ, zero, suc, ◌+◌, ◌-◌, ◌<◌}
 use native.Mathlib.Omega.{arith}
 use Rattle.rules.specs.Lists.{first_of}
@@ -20,24 +19,24 @@ use Rattle.faults.proofs.Refusing.{refused, nothing_refused, map_first}
 -- ---- the refusal
 
 -- the place of what is too many, refused
-pub too_many : (p : ℕ) {o : Option ℕ} → o ≡ some p → refusal_in (record { number = too_many_parts; place = p }) ≡ Option.map (refusal too_many_parts) o
+pub too_many : (p : ℕ) {o : Option ℕ} → o ≡ Some p → refusal_in (record { number = too_many_parts; place = p }) ≡ option_map (refusal too_many_parts) o
 unfolding refusal_in
 too_many p e = rw e
 
 -- nothing is too many
-pub not_many : (f : Fault) {o : Option ℕ} → refusal_in f ≡ none → o ≡ none → refusal_in f ≡ Option.map (refusal too_many_parts) o
+pub not_many : (f : Fault) {o : Option ℕ} → refusal_in f ≡ None → o ≡ None → refusal_in f ≡ option_map (refusal too_many_parts) o
 not_many f e z = rw z e
 
 -- ---- names
 
 -- after no name there is none
-pub no_name_after : (k : ℕ) → name_after k [] ≡ none
+pub no_name_after : (k : ℕ) → name_after k [] ≡ None
 unfolding name_after first_of
 no_name_after zero = refl
 no_name_after (suc k) = refl
 
 -- when all that may stand were counted the next name is the one after them
-pub name_after_lem : (most count : ℕ) (x : Spot) (names : List Spot) → count ≡ most → name_after (most - count) (x ∷ names) ≡ some x.place
+pub name_after_lem : (most count : ℕ) (x : Spot) (names : List Spot) → count ≡ most → name_after (most - count) (x ∷ names) ≡ Some x.place
 unfolding name_after first_of
 name_after_lem most count x names e = let z : most - count ≡ 0 = omega arith in rw z
 
@@ -50,14 +49,14 @@ name_counted most count x names h = let e : most - count ≡ suc (most - (count 
 -- ---- lines
 
 -- after no line there is none
-pub no_line_after : (k : ℕ) → line_after {A = List Spot} k [] ≡ none
+pub no_line_after : (k : ℕ) → line_after {A = List Spot} k [] ≡ None
 unfolding line_after first_of
 no_line_after zero = refl
 no_line_after (suc k) = refl
 
 -- when all that may stand were counted the next line is the one after them
 pub line_after_lem : (most count : ℕ) (l : Line (List Spot)) (lines : List (Line (List Spot))) → count ≡ most
-    → line_after (most - count) (l ∷ lines) ≡ some l.place
+    → line_after (most - count) (l ∷ lines) ≡ Some l.place
 unfolding line_after first_of
 line_after_lem most count l lines e = let z : most - count ≡ 0 = omega arith in rw z
 
@@ -70,35 +69,34 @@ line_counted most count l lines h = let e : most - count ≡ suc (most - (count 
 -- ---- need lines
 
 -- of no need line nothing is too many
-pub no_row_over : (k : ℕ) → rows_over k [] ≡ none
+pub no_row_over : (k : ℕ) → rows_over k [] ≡ None
 unfolding rows_over
 no_row_over k = refl
 
 -- when all that may stand were counted the next need line is too many
 pub row_over : (most count : ℕ) (l : Line (List Spot)) (lines : List (Line (List Spot))) → count ≡ most
-    → rows_over (most - count) (l ∷ lines) ≡ some l.place
+    → rows_over (most - count) (l ∷ lines) ≡ Some l.place
 unfolding rows_over
 row_over most count l lines e = let z : most - count ≡ 0 = omega arith in rw z
 
 -- else it counts as one of them, and its names may be too many
 row_counted : (most count : ℕ) (l : Line (List Spot)) (lines : List (Line (List Spot))) → count < most
-    → rows_over (most - count) (l ∷ lines) ≡ or_else (name_after most_column_marks l.value) (rows_over (most - (count + 1)) lines)
+    → rows_over (most - count) (l ∷ lines) ≡ option_or (name_after most_column_marks l.value) (rows_over (most - (count + 1)) lines)
 unfolding rows_over
 row_counted most count l lines h = let e : most - count ≡ suc (most - (count + 1)) = omega arith in rw e
 
 module _ (f : Fault) (most count : ℕ) (l : Line (List Spot)) (lines : List (Line (List Spot))) (h : count < most)
-    (e : refusal_in f ≡ Option.map (refusal too_many_parts) (name_after most_column_marks l.value)) where
+    (e : refusal_in f ≡ option_map (refusal too_many_parts) (name_after most_column_marks l.value)) where
   -- a name of the first line is too many
-  pub row_refused : (f.number ≡ 0 → ⊥) → refusal_in f ≡ Option.map (refusal too_many_parts) (rows_over (most - count) (l ∷ lines))
+  pub row_refused : (f.number ≡ 0 → ⊥) → refusal_in f ≡ option_map (refusal too_many_parts) (rows_over (most - count) (l ∷ lines))
   row_refused n =
       let later = rows_over (most - (count + 1)) lines in
       rw (row_counted most count l lines h, map_first (refusal too_many_parts) (name_after most_column_marks l.value) later) (refused f e _ n)
 
   -- or none is
   pub row_passed : f.number ≡ 0 → rows_over (most - count) (l ∷ lines) ≡ rows_over (most - (count + 1)) lines
-  unfolding or_else
   row_passed z =
-      let none_over : name_after most_column_marks l.value ≡ none
+      let none_over : name_after most_column_marks l.value ≡ None
       = (map-eq-none_iff (refusal too_many_parts) (name_after most_column_marks l.value)).0 (nothing_refused f e z) in
       row_counted most count l lines h ∙ rw none_over
 

@@ -2,8 +2,7 @@
 use mathlib.Core.Path.{◌≡◌, refl, sym, ap, ◌∙◌}
 use mathlib.Core.Bool.{true}
 use mathlib.Core.List.{List, [], ◌∷◌, map}
-use mathlib.Core.Option
-use mathlib.Core.Option.{none, some, or_else, map-eq-none_iff}
+use Rattle.rules.proofs.Options.{None, Some, option_or, map-eq-none_iff, option_map}
 use Prim.Native.Nat.{ℕ, ◌+◌, ◌-◌, ◌*◌, ◌<◌, ◌≤◌}
 use native.Mathlib.Omega.{arith}
 use lib.ListN.{length, length-map}
@@ -90,12 +89,12 @@ module _ {s : List ℕ} {sheet : Sheet} (form : OfForm s sheet) {places : Places
     end_number = read form.number_to sheet.ended.value (rw at.end form.number) form.number_end
 
     -- the number at the end is right
-    pub end_same : n ≡ places.lines → none ≡ end_fault sheet
+    pub end_same : n ≡ places.lines → None ≡ end_fault sheet
     unfolding end_fault
     end_same e = sym (rw (eq-eqb sheet.ended.value (lines_in sheet) (sym end_number ∙ e ∙ at.lines)))
 
     -- or another
-    pub end_other : (n ≡ places.lines → ⊥) → some (refusal end_number_other (places.end + length end_key)) ≡ end_fault sheet
+    pub end_other : (n ≡ places.lines → ⊥) → Some (refusal end_number_other (places.end + length end_key)) ≡ end_fault sheet
     unfolding end_fault
     end_other f =
         let g : sheet.ended.value ≡ lines_in sheet → ⊥ = λ e. f (end_number ∙ e ∙ sym at.lines) in
@@ -105,17 +104,18 @@ module _ {s : List ℕ} {sheet : Sheet} (form : OfForm s sheet) {places : Places
 -- ---- what can be at fault, part by part
 
 -- more than there may be: the columns, the forbid lines, the need lines
-pub over_parts : (sheet : Sheet) → Option.map (refusal too_many_parts) (first_over sheet)
-    ≡ or_else (Option.map (refusal too_many_parts) (name_after most_columns sheet.columns))
-    (or_else (Option.map (refusal too_many_parts) (line_after most_forbidden sheet.forbids))
-    (Option.map (refusal too_many_parts) (rows_over most_needs (map (λ l. line l.place (names_in l.value)) sheet.needs))))
+pub over_parts : (sheet : Sheet) → option_map (refusal too_many_parts) (first_over sheet)
+    ≡ option_or (option_map (refusal too_many_parts) (name_after most_columns sheet.columns))
+    (option_or (option_map (refusal too_many_parts) (line_after most_forbidden sheet.forbids))
+    (option_map (refusal too_many_parts) (rows_over most_needs (map (λ l. line l.place (names_in l.value)) sheet.needs))))
 unfolding first_over
 over_parts sheet =
     rw (needs_rows most_needs sheet.needs)
-    (map_first (refusal too_many_parts) _ _ ∙ rw (map_first (refusal too_many_parts) (line_after most_forbidden sheet.forbids) _))
+    (map_first (refusal too_many_parts) (name_after most_columns sheet.columns) _
+    ∙ rw (map_first (refusal too_many_parts) (line_after most_forbidden sheet.forbids) _))
 
 -- with no more than there may be there are at most 16 columns
-pub few_columns_lem : (sheet : Sheet) → Option.map (refusal too_many_parts) (first_over sheet) ≡ none → length sheet.columns ≤ most_columns
+pub few_columns_lem : (sheet : Sheet) → option_map (refusal too_many_parts) (first_over sheet) ≡ None → length sheet.columns ≤ most_columns
 unfolding first_over name_after
 few_columns_lem sheet e =
     none_after (λ x. x.place) most_columns sheet.columns (else_none _ _ ((map-eq-none_iff (refusal too_many_parts) (first_over sheet)).0 e)).0
@@ -128,8 +128,8 @@ need_names (l ∷ lines) = rw (need_names lines)
 
 -- names at fault: in the line of the columns, the forbid lines, the need lines
 pub names_parts : (sheet : Sheet) → names_fault sheet
-    ≡ or_else (first_name_fault column_fault [] sheet.columns)
-    (or_else (lines_fault (forbid_fault sheet.columns) (map (λ l. l.value) sheet.forbids))
+    ≡ option_or (first_name_fault column_fault [] sheet.columns)
+    (option_or (lines_fault (forbid_fault sheet.columns) (map (λ l. l.value) sheet.forbids))
     (lines_fault (need_fault sheet.columns) (map (λ l. l.value) (map (λ l. line l.place (names_in l.value)) sheet.needs))))
 unfolding names_fault
 names_parts sheet = rw (need_names sheet.needs)

@@ -2,7 +2,7 @@
 use mathlib.Core.Path.{◌≡◌, refl, sym, ◌∙◌}
 use mathlib.Core.Bool.{Bool, true, false, cond}
 use mathlib.Core.List.{List, [], ◌∷◌, ◌++◌, map}
-use mathlib.Core.Option.{Option, none, some, get_or, or_else}
+use Rattle.rules.specs.Options.{Option, None, Some, unwrap_or, option_or}
 use Prim.Native.Nat.{ℕ, ◌≤◌}
 use native.Mathlib.Omega.{arith}
 use lib.ListN.{length}
@@ -30,14 +30,14 @@ pub once : (before : List Spot) (x : Spot) → stands_in before x ≡ false → 
 unfolding column_fault number_in
 once before x e = rw e
 
-module _ (columns before : List Spot) (x : Spot) {r : ℕ} (found : r ≡ get_or (column_named columns x.name) most_columns)
+module _ (columns before : List Spot) (x : Spot) {r : ℕ} (found : r ≡ unwrap_or (column_named columns x.name) most_columns)
     (few : length columns ≤ most_columns) where
   -- a name that is no column is unknown
   pub not_known : r ≡ most_columns → number_in name_unknown ≡ need_fault columns before x
   unfolding need_fault number_in stands_in column_named
   not_known e = go (stands_in columns x) refl
     where
-      go : (b : Bool) → stands_in columns x ≡ b → ◌≡◌ {A = Option ℕ} (some name_unknown) (cond b none (some name_unknown))
+      go : (b : Bool) → stands_in columns x ≡ b → ◌≡◌ {A = Option ℕ} (Some name_unknown) (cond b None (Some name_unknown))
       go true f =
           let first = first_below (λ c. same_name c.name x.name) columns f in
           absurd (omega (arith, first.2, rw first.1 at found))
@@ -51,20 +51,20 @@ module _ (columns before : List Spot) (x : Spot) {r : ℕ} (found : r ≡ get_or
       none_there : stands_in columns x ≡ false → r ≡ most_columns
       none_there f = found ∙ rw (none_first (λ c. same_name c.name x.name) columns f)
 
-      go : (b : Bool) → stands_in columns x ≡ b → ◌≡◌ {A = Option ℕ} none (cond b none (some name_unknown))
+      go : (b : Bool) → stands_in columns x ≡ b → ◌≡◌ {A = Option ℕ} None (cond b None (Some name_unknown))
       go true f = refl
       go false f = absurd (n (none_there f))
 
 -- a name in a forbid line that is unknown is at fault for that
 pub forbid_unknown : (columns before : List Spot) (x : Spot) {n : ℕ} → number_in n ≡ need_fault columns before x → (n ≡ 0 → ⊥)
     → number_in n ≡ forbid_fault columns before x
-unfolding forbid_fault or_else
+unfolding forbid_fault
 forbid_unknown columns before x e f = e ∙ sym (rw (a_number e f))
 
 -- else it is at fault if it stands before
 pub forbid_known : (columns before : List Spot) (x : Spot) {n : ℕ} → number_in n ≡ need_fault columns before x → n ≡ 0
     → forbid_fault columns before x ≡ column_fault before x
-unfolding forbid_fault or_else
+unfolding forbid_fault
 forbid_known columns before x e z = rw (no_number e z)
 
 -- ---- the names of a line
@@ -72,12 +72,12 @@ forbid_known columns before x e z = rw (no_number e z)
 module _ (fault : List Spot → Spot → Option ℕ) (before : List Spot) (x : Spot) (names : List Spot) {n : ℕ} (e : number_in n ≡ fault before x) where
   -- the first name is at fault
   pub first_faulty : (n ≡ 0 → ⊥) → refusal_in (record { number = n; place = x.place }) ≡ first_name_fault fault before (x ∷ names)
-  unfolding first_name_fault or_else
+  unfolding first_name_fault
   first_faulty f = a_refusal _ f ∙ sym (rw (a_number e f))
 
   -- or the others are left
   pub first_right : n ≡ 0 → first_name_fault fault before (x ∷ names) ≡ first_name_fault fault (before ++ (x ∷ [])) names
-  unfolding first_name_fault or_else
+  unfolding first_name_fault
   first_right z = rw (no_number e z)
 
 -- none of the names before this place is at fault: the first fault of all is the first of those left
@@ -88,7 +88,7 @@ pub record RightBefore (s : List ℕ) (fault : List Spot → Spot → Option ℕ
 
 -- with none left none is at fault
 pub all_right : {s : List ℕ} {fault : List Spot → Spot → Option ℕ} {from place : ℕ} {names : List Spot} → RightBefore s fault from place names []
-    → first_name_fault fault [] names ≡ none
+    → first_name_fault fault [] names ≡ None
 unfolding first_name_fault
 all_right right = right.same
 
@@ -107,6 +107,6 @@ module _ (fault : List Spot → Spot → Option ℕ) (f : Fault) (l : Line (List
   line_right z = passed f e _ z
 
 -- in no line there is no fault
-pub no_line_faulty : (fault : List Spot → Spot → Option ℕ) → lines_fault fault [] ≡ none
+pub no_line_faulty : (fault : List Spot → Spot → Option ℕ) → lines_fault fault [] ≡ None
 unfolding lines_fault
 no_line_faulty fault = refl

@@ -1,6 +1,6 @@
 -- Which faults the names of a section's lines have, and where the sections stand.
 use Rattle.std.specs.Prelude.{◌≡◌, List, [], ◌∷◌, ℕ, zero, suc, ◌+◌, length}
-use Rattle.std.proofs.Math.Option.{Option, none, some, or_else}
+use Rattle.rules.specs.Options.{Option, None, Some, option_or}
 use Rattle.rules.specs.Numbers.{most_column_marks}
 use Rattle.rules.specs.Names.{Spot}
 use Rattle.rules.specs.Texts.{Line, Sheet, OfForm}
@@ -15,13 +15,13 @@ abbrev pub fault_by : Section → List Spot → List Spot → Spot → Option �
 fault_by Columns columns = column_fault
 fault_by Forbid columns = forbid_fault columns
 fault_by Need columns = need_fault columns
-fault_by End columns = λ before x. none
+fault_by End columns = λ before x. None
 
 -- of need lines of which k may stand, with their names: the 33rd name of one of the first k, or the line after them
 unfoldable pub rows_over : ℕ → List (Line (List Spot)) → Option ℕ
-rows_over k [] = none
-rows_over zero (l ∷ lines) = some l.place
-rows_over (suc k) (l ∷ lines) = or_else (name_after most_column_marks l.value) (rows_over k lines)
+rows_over k [] = None
+rows_over zero (l ∷ lines) = Some l.place
+rows_over (suc k) (l ∷ lines) = option_or (name_after most_column_marks l.value) (rows_over k lines)
 
 -- the lines of a kind were counted, and their end found
 pub record Walks (q : ℕ) (rows : List (Line (List Spot))) (r : Walked) : Type 0 where

@@ -1,6 +1,6 @@
 // Refusal 3: more columns, lines or names than there may be.
 ghost use Rattle.std.specs.Prelude.{◌≡◌, List, ℕ};
-ghost use Rattle.std.proofs.Math.Option.{map};
+ghost use Rattle.rules.specs.Options.{option_map};
 ghost use Rattle.rules.specs.Numbers.{most_forbidden, most_needs};
 ghost use Rattle.rules.specs.Refusals.{too_many_parts};
 ghost use Rattle.rules.specs.Signs.{forbid_key, need_key};
@@ -26,7 +26,7 @@ use naming::words::{name_end, next_name};
 // The name after the first so many of a line.
 fn name_over(text: &[u8], from: usize, most: usize) -> Fault
     ensures { (q : ℕ) (names : List Spot) → Words text.now from q names
-        → refusal_in result ≡ map (refusal too_many_parts) (name_after most names) }
+        → refusal_in result ≡ option_map (refusal too_many_parts) (name_after most names) }
 {
     let mut count = 0;
     let mut place = next_name(text, from);
@@ -46,7 +46,7 @@ fn name_over(text: &[u8], from: usize, most: usize) -> Fault
 // The 33rd forbid line.
 fn forbid_over(text: &[u8], from: usize) -> Fault
     ensures { (q : ℕ) (rows : List (Line (List Spot))) → Rows text.now forbid_key from q rows
-        → refusal_in result ≡ map (refusal too_many_parts) (line_after most_forbidden rows) }
+        → refusal_in result ≡ option_map (refusal too_many_parts) (line_after most_forbidden rows) }
 {
     let mut count = 0;
     let mut place = from;
@@ -66,7 +66,7 @@ fn forbid_over(text: &[u8], from: usize) -> Fault
 // The 33rd name of a need line, or the 9th need line.
 fn need_over(text: &[u8], from: usize) -> Fault
     ensures { (q : ℕ) (rows : List (Line (List Spot))) → Rows text.now need_key from q rows
-        → refusal_in result ≡ map (refusal too_many_parts) (rows_over most_needs rows) }
+        → refusal_in result ≡ option_map (refusal too_many_parts) (rows_over most_needs rows) }
 {
     let before = width(Section::Need);
     let mut count = 0;
@@ -91,7 +91,7 @@ fn need_over(text: &[u8], from: usize) -> Fault
 // The first of all that is too many: a column, a forbid line, or a name or line of the needs.
 pub fn over(text: &[u8], places: Places) -> Fault
     ensures { (sheet : Sheet) (form : OfForm text.now sheet) → Sectioned text.now sheet form places
-        → refusal_in result ≡ map (refusal too_many_parts) (first_over sheet) }
+        → refusal_in result ≡ option_map (refusal too_many_parts) (first_over sheet) }
 {
     let column = name_over(text, COLUMNS_FROM, ColumnSet::MOST_COLUMNS as usize);
     if column.number != 0 {

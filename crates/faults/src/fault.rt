@@ -1,6 +1,6 @@
 // A fault as the code has it.
 ghost use Rattle.std.specs.Prelude.{◌≡◌};
-ghost use Rattle.std.proofs.Math.Option.{none};
+ghost use Rattle.rules.specs.Options.{None};
 ghost use Rattle.faults.specs.Refused.{refusal_in};
 
 // A refusal's number and place; the number 0 stands for no refusal.
@@ -12,7 +12,7 @@ pub struct Fault {
 
 // The fault that is none.
 pub fn no_fault() -> Fault
-    ensures { refusal_in result ≡ none }
+    ensures { refusal_in result ≡ None }
 {
     Fault {
         number: 0,

@@ -3,7 +3,7 @@ use mathlib.Core.Path.{◌≡◌, refl, ◌∙◌}
 use mathlib.Core.Logic.{◌⊎◌, inl, inr}
 use mathlib.Core.Bool.{Bool, true, false, not, cond, ◌&&◌, ◌||◌, or-true}
 use mathlib.Core.List.{List, [], ◌∷◌}
-use mathlib.Core.Option.{Option, none, some, bind}
+use Rattle.rules.specs.Options.{Option, None, Some, bind}
 use Prim.Native.Nat.{ℕ, suc, ◌+◌, ◌-◌, ◌≤◌, ◌<◌}
 use native.Mathlib.Nat.{zero-add, add-zero}
 use native.Mathlib.Numerals.{add-one}
@@ -43,8 +43,8 @@ left_start n [] = record { vs = []; many = refl; same = refl }
 left_start n (m ∷ row) = record { vs = []; many = refl; same = rw (zero-add, none_left (operands_of (m ∷ row) [])) }
   where
     none_left : (o : Option (List Need)) → (absent o || absent (bind o only)) ≡ absent (bind o only)
-    none_left none = refl
-    none_left (some vs) = refl
+    none_left None = refl
+    none_left (Some vs) = refl
 
 pub left_end : {n : ℕ} {need : List ℕ} {operands named i : ℕ} → Left n need operands named i → length need ≤ i
     → need_fit n need ≡ (eqb operands 1 && leb named 32)
@@ -64,14 +64,14 @@ pub one_most : (b : Bool) → cond b 1 0 ≤ 1
 one_most true = omega arith
 one_most false = omega arith
 
-joined_few : (join : Need → Need → Need) (vs : List Need) → length vs < 2 → joined join vs ≡ none
+joined_few : (join : Need → Need → Need) (vs : List Need) → length vs < 2 → joined join vs ≡ None
 unfolding joined
 joined_few join [] h = refl
 joined_few join (w ∷ []) h = refl
 joined_few join (w ∷ v ∷ vs) h = absurd (omega arith)
 
 joined_two : (join : Need → Need → Need) (vs : List Need) → 2 ≤ length vs
-    → (us : List Need) × (suc (length us) ≡ length vs) × (joined join vs ≡ some us)
+    → (us : List Need) × (suc (length us) ≡ length vs) × (joined join vs ≡ Some us)
 unfolding joined
 joined_two join [] h = absurd (omega arith)
 joined_two join (w ∷ []) h = absurd (omega arith)
@@ -88,7 +88,7 @@ module _ {n : ℕ} {need : List ℕ} {operands named i : ℕ} (left : Left n nee
       let join = cond (eqb (get_or need i 0) and_mark) both either in
       left.same ∙ rw (drop-cons need i 0 h, after_join (get_or need i 0) left.vs j, joined_few join left.vs (omega arith))
 
-  step : (us : List Need) → mark_unfit n (get_or need i 0) ≡ false → after (get_or need i 0) left.vs ≡ some us
+  step : (us : List Need) → mark_unfit n (get_or need i 0) ≡ false → after (get_or need i 0) left.vs ≡ Some us
       → need_fit n need ≡ left_fit n us (named + cond (ltb (get_or need i 0) and_mark) 1 0) (drop (i + 1) need)
   unfolding left_fit any_of operands_of keep bind
   step us f e = left.same ∙ rw (add-one, drop-cons need i 0 h, f, e, sums (ltb (get_or need i 0) and_mark))
@@ -117,21 +117,21 @@ module _ {n : ℕ} {need : List ℕ} {operands named i : ℕ} (left : Left n nee
 -- how many needs the marks are of which these are left, after so many needs
 unfoldable count_from : ℕ → ℕ → List ℕ → Option ℕ
 count_from n count marks =
-    cond (unclosed marks || any_of need_unfit (rows marks) || any_of (mark_unfit n) marks || ltb 8 (count + length (rows marks))) none
-    (some (count + length (rows marks)))
+    cond (unclosed marks || any_of need_unfit (rows marks) || any_of (mark_unfit n) marks || ltb 8 (count + length (rows marks))) None
+    (Some (count + length (rows marks)))
 
 module _ (n count : ℕ) (marks : List ℕ) (h : 0 < length marks) where
-  full : count ≡ 8 → count_from n count marks ≡ none
+  full : count ≡ 8 → count_from n count marks ≡ None
   unfolding count_from
   full e =
       let over : 8 < count + length (rows marks) = rw (rows_first marks h) (omega arith) in
       rw (lt-ltb 8 (count + length (rows marks)) over, or-true)
 
-  unfit : need_fit n (before_end marks) ≡ false → count_from n count marks ≡ none
+  unfit : need_fit n (before_end marks) ≡ false → count_from n count marks ≡ None
   unfolding count_from any_of
   unfit e = go (or_one (need_unfit (before_end marks)) (any_of (mark_unfit n) (before_end marks)) (not-false _ e))
     where
-      go : (need_unfit (before_end marks) ≡ true) ⊎ (any_of (mark_unfit n) (before_end marks) ≡ true) → count_from n count marks ≡ none
+      go : (need_unfit (before_end marks) ≡ true) ⊎ (any_of (mark_unfit n) (before_end marks) ≡ true) → count_from n count marks ≡ None
       go (inl a) = rw (rows_first marks h, a, or-true)
       go (inr b) = rw (marks_first n marks, b, or-true)
 
@@ -152,7 +152,7 @@ unfolding need_count marks_unfit needs_too_many count_from
 past_none n marks = record { same = rw zero-add }
 
 module _ {n : ℕ} {marks : List ℕ} {count from : ℕ} (past : Past n marks count from) where
-  pub past_all : length marks ≤ from → count ≤ 8 → need_count n marks ≡ some count
+  pub past_all : length marks ≤ from → count ≤ 8 → need_count n marks ≡ Some count
   unfolding count_from unclosed rows any_of
   past_all h l = past.same ∙ rw (drop_of_length-le marks h, add-zero, le-ltb 8 count l)
 
@@ -161,19 +161,19 @@ module _ {n : ℕ} {marks : List ℕ} {count from : ℕ} (past : Past n marks co
     some_left_lem : 0 < length (drop from marks)
     some_left_lem = omega (arith, length-drop from marks)
 
-    pub past_unclosed : to ≡ length marks → need_count n marks ≡ none
+    pub past_unclosed : to ≡ length marks → need_count n marks ≡ None
     unfolding count_from
     past_unclosed q =
         let all : length (before_end (drop from marks)) ≡ length (drop from marks) = omega (arith, length-drop from marks) in
         past.same ∙ rw (unclosed_last (drop from marks) some_left_lem all)
 
-    pub past_full : count ≡ 8 → need_count n marks ≡ none
+    pub past_full : count ≡ 8 → need_count n marks ≡ None
     past_full q = past.same ∙ full n count (drop from marks) some_left_lem q
 
     need : take (to - from) (drop from marks) ≡ before_end (drop from marks)
     need = before_part marks from to e
 
-    pub past_unfit : need_fit n (take (to - from) (drop from marks)) ≡ false → need_count n marks ≡ none
+    pub past_unfit : need_fit n (take (to - from) (drop from marks)) ≡ false → need_count n marks ≡ None
     past_unfit q = past.same ∙ unfit n count (drop from marks) some_left_lem (rw need at q)
 
     pub past_next : (to ≡ length marks → ⊥) → need_fit n (take (to - from) (drop from marks)) ≡ true → Past n marks (count + 1) (to + 1)

@@ -1,7 +1,7 @@
 -- The job of numbers that were loaded and are fit, as the rules mean it. Assumes nothing.
 use mathlib.Core.Path.{◌≡◌, sym, ap, subst, ◌∙◌}
 use mathlib.Core.Bool.{true}
-use mathlib.Core.Option.{some}
+use Rattle.rules.specs.Options.{Some}
 use Prim.Native.Nat.{ℕ, ◌≤◌}
 use lib.ListN.{length}
 use Rattle.rules.specs.Marks.{rows}
@@ -17,7 +17,7 @@ use Rattle.job.proofs.RowNeeds.{row_need}
 
 pub record Known (q : Numbers) (l : Loaded) : Type 0 where
   pub job : Job
-  pub known : job_of q ≡ some job
+  pub known : job_of q ≡ Some job
   pub columns : l.job.columns ≡ q.columns
   pub many : length job.needs ≡ l.job.needs
   pub few : l.job.needs ≤ 8

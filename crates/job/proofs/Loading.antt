@@ -1,7 +1,7 @@
 -- What the tests of loading say of the numbers, and what loading gives by them. Assumes nothing.
 use mathlib.Core.Path.{◌≡◌, refl, sym, ◌∙◌}
 use mathlib.Core.Bool.{Bool, true, false, cond, ◌||◌, or_assoc, or-true}
-use mathlib.Core.Option.{none, some, none-ne-some, some-ne-none, some-injective}
+use Rattle.rules.proofs.Options.{None, Some, none-ne-some, some-ne-none, some-injective}
 use Prim.Native.Nat.{ℕ}
 use lib.Dec.{ltb}
 use lib.ListN.{length}
@@ -32,14 +32,14 @@ module _ (q : Numbers) where
   unfolding sets_too_many
   many_sets e = unfit_parts ∙ rw (e, or-true)
 
-  pub unfit_set : (i : ℕ) → first_where (set_unfit q.columns) q.forbidden ≡ some i → unfit q ≡ true
+  pub unfit_set : (i : ℕ) → first_where (set_unfit q.columns) q.forbidden ≡ Some i → unfit q ≡ true
   unfit_set i e = unfit_parts ∙ rw (go (any_of (set_unfit q.columns) q.forbidden) refl, or-true)
     where
       go : (b : Bool) → any_of (set_unfit q.columns) q.forbidden ≡ b → any_of (set_unfit q.columns) q.forbidden ≡ true
       go true u = u
       go false u = absurd (none-ne-some i (sym (none_first (set_unfit q.columns) q.forbidden u) ∙ e))
 
-  pub unfit_marks : need_count q.columns q.marks ≡ none → unfit q ≡ true
+  pub unfit_marks : need_count q.columns q.marks ≡ None → unfit q ≡ true
   unfolding need_count
   unfit_marks e = unfit_parts ∙ rw (go (marks_unfit q.columns q.marks) refl, or-true)
     where
@@ -47,21 +47,21 @@ module _ (q : Numbers) where
       go true u = u
       go false u = absurd (some-ne-none (length (rows q.marks)) (sym (rw u) ∙ e))
 
-  fit_marks : (count : ℕ) → need_count q.columns q.marks ≡ some count
+  fit_marks : (count : ℕ) → need_count q.columns q.marks ≡ Some count
       → (marks_unfit q.columns q.marks ≡ false) × (count ≡ length (rows q.marks))
   unfolding need_count
   fit_marks count e = go (marks_unfit q.columns q.marks) refl e
     where
-      go : (b : Bool) → marks_unfit q.columns q.marks ≡ b → cond b none (some (length (rows q.marks))) ≡ some count
+      go : (b : Bool) → marks_unfit q.columns q.marks ≡ b → cond b None (Some (length (rows q.marks))) ≡ Some count
           → (marks_unfit q.columns q.marks ≡ false) × (count ≡ length (rows q.marks))
       go true u f = absurd (none-ne-some count f)
       go false u f = (u, sym (some-injective (length (rows q.marks)) count f))
 
-  pub counted : (count : ℕ) → need_count q.columns q.marks ≡ some count → count ≡ length (rows q.marks)
+  pub counted : (count : ℕ) → need_count q.columns q.marks ≡ Some count → count ≡ length (rows q.marks)
   counted count e = (fit_marks count e).1
 
   pub all_fit : (count : ℕ) → (q.columns ≡ 0 → ⊥) → ltb 16 q.columns ≡ false → ltb 32 (length q.forbidden) ≡ false
-      → first_where (set_unfit q.columns) q.forbidden ≡ none → need_count q.columns q.marks ≡ some count → unfit q ≡ false
+      → first_where (set_unfit q.columns) q.forbidden ≡ None → need_count q.columns q.marks ≡ Some count → unfit q ≡ false
   unfolding columns_unfit sets_too_many
   all_fit count n m s f e =
       unfit_parts ∙ rw (ne_eqb q.columns 0 n, m, s, first_none (set_unfit q.columns) q.forbidden f, (fit_marks count e).0)

@@ -2,7 +2,7 @@
 use mathlib.Core.Path.{◌≡◌, refl}
 use mathlib.Core.Bool.{true, false}
 use mathlib.Core.List.{List, [], ◌∷◌}
-use mathlib.Core.Option.{some, bind, bind-eq-some_iff, some-injective}
+use Rattle.rules.proofs.Options.{Some, bind, bind-eq-some_iff, some-injective}
 use Prim.Native.Nat.{ℕ, zero, suc, ◌≤◌, ◌<◌}
 use native.Mathlib.Omega.{arith}
 use lib.Dec.{ltb}
@@ -31,16 +31,16 @@ before_row (m ∷ need) (suc places) b h =
     let other = ltb-true m end_mark below.0 in
     rw (ne_eqb m end_mark (λ e. omega arith), before_row need places below.1 (omega arith))
 
-needs_first : (row : List ℕ) (needs : List (List ℕ)) (vs : List Need) → needs_of (row ∷ needs) ≡ some vs
-    → (v : Need) × (ws : List Need) × (need_of row ≡ some v) × (needs_of needs ≡ some ws) × (v ∷ ws ≡ vs)
+needs_first : (row : List ℕ) (needs : List (List ℕ)) (vs : List Need) → needs_of (row ∷ needs) ≡ Some vs
+    → (v : Need) × (ws : List Need) × (need_of row ≡ Some v) × (needs_of needs ≡ Some ws) × (v ∷ ws ≡ vs)
 unfolding needs_of bind-eq-some_iff
 needs_first row needs vs e =
-    let a = (bind-eq-some_iff (need_of row) (λ v. bind (needs_of needs) (λ ws. some (v ∷ ws)))).0 e in
-    let b = (bind-eq-some_iff (needs_of needs) (λ ws. some (a.0 ∷ ws))).0 a.2 in
+    let a = (bind-eq-some_iff (need_of row) (λ v. bind (needs_of needs) (λ ws. Some (v ∷ ws)))).0 e in
+    let b = (bind-eq-some_iff (needs_of needs) (λ ws. Some (a.0 ∷ ws))).0 a.2 in
     (a.0, b.0, a.1, b.1, some-injective (a.0 ∷ b.0) vs b.2)
 
-needs_at : (needs : List (List ℕ)) (vs : List Need) (k : ℕ) (d : Need) → needs_of needs ≡ some vs → k < length needs
-    → need_of (get_or needs k []) ≡ some (get_or vs k d)
+needs_at : (needs : List (List ℕ)) (vs : List Need) (k : ℕ) (d : Need) → needs_of needs ≡ Some vs → k < length needs
+    → need_of (get_or needs k []) ≡ Some (get_or vs k d)
 needs_at [] vs k d e h = absurd (omega arith)
 needs_at (row ∷ needs) vs zero d e h = let f = needs_first row needs vs e in rw (← f.4) f.2
 needs_at (row ∷ needs) vs (suc k) d e h = let f = needs_first row needs vs e in rw (← f.4) (needs_at needs f.1 k d f.3 (omega arith))
@@ -58,8 +58,8 @@ row_marks q e k h =
     let below = every_in below_end (rows_below q.columns q.marks fit.marks) among in
     rw here (before_row (get_or all k []) 63 below (need_few (get_or all k []) below (not_any_in need_unfit fit.needs among)))
 
-pub row_need : (q : Numbers) (job : Job) → job_of q ≡ some job → (k : ℕ) → k < length job.needs
-    → need_of (before_end (get_or (rows_of (rows q.marks)) k [])) ≡ some (get_or job.needs k (column 0))
+pub row_need : (q : Numbers) (job : Job) → job_of q ≡ Some job → (k : ℕ) → k < length job.needs
+    → need_of (before_end (get_or (rows_of (rows q.marks)) k [])) ≡ Some (get_or job.needs k (column 0))
 row_need q job e k h =
     let j = job_fit q job e in
     let l : k < length (rows q.marks) = omega (arith, j.as_many_needs) in

@@ -2,7 +2,7 @@
 use mathlib.Core.Path.{◌≡◌, sym, ◌∙◌}
 use mathlib.Core.Bool.{false, not}
 use mathlib.Core.List.{List}
-use mathlib.Core.Option.{Option, none, some}
+use Rattle.rules.specs.Options.{Option, None, Some}
 use Prim.Native.Nat.{ℕ}
 use Rattle.rules.specs.Lists.{first_where}
 use Rattle.rules.specs.Jobs.{Job}
@@ -28,25 +28,25 @@ not_loaded q split l e f = judged_unfit q split (unfit_none q (loaded_unfit q l 
 pub same_columns : {n m : ℕ} {o : Option ℕ} (split : List ℕ) → m ≡ n → first_where (set_unfit m) split ≡ o → first_where (set_unfit n) split ≡ o
 same_columns split e found = rw (← e) found
 
-module _ (q : Numbers) (split : List ℕ) (job : Job) (known : job_of q ≡ some job) where
+module _ (q : Numbers) (split : List ℕ) (job : Job) (known : job_of q ≡ Some job) where
   as_improper : first_improper job split ≡ first_where (set_unfit q.columns) split
   as_improper =
       sym (first_same (set_unfit q.columns) 0 (λ s. not (proper job s)) (λ s. unfit_improper job q.columns s (job_fit q job known).columns) split)
 
-  pub answer_improper : (i : ℕ) → first_where (set_unfit q.columns) split ≡ some i → judged q split ≡ improper i
+  pub answer_improper : (i : ℕ) → first_where (set_unfit q.columns) split ≡ Some i → judged q split ≡ improper i
   answer_improper i e = judged_job q job split known ∙ says_improper job split i (as_improper ∙ e)
 
-  module _ (proper : first_where (set_unfit q.columns) split ≡ none) where
-    pub answer_forbids : (p : Places) → first_forbidden job split ≡ some p → judged q split ≡ forbids p.i p.j
+  module _ (proper : first_where (set_unfit q.columns) split ≡ None) where
+    pub answer_forbids : (p : Places) → first_forbidden job split ≡ Some p → judged q split ≡ forbids p.i p.j
     answer_forbids p e = judged_job q job split known ∙ says_forbids job split (as_improper ∙ proper) p e
 
-    module _ (safe : first_forbidden job split ≡ none) where
-      pub answer_shares : (p : Places) → first_sharing job split ≡ some p → judged q split ≡ shares p.i p.j
+    module _ (safe : first_forbidden job split ≡ None) where
+      pub answer_shares : (p : Places) → first_sharing job split ≡ Some p → judged q split ≡ shares p.i p.j
       answer_shares p e = judged_job q job split known ∙ says_shares job split (as_improper ∙ proper) safe p e
 
-      module _ (unlinked : first_sharing job split ≡ none) where
-        pub answer_unmet : (k : ℕ) → first_unmet job.needs split ≡ some k → judged q split ≡ unmet k
+      module _ (unlinked : first_sharing job split ≡ None) where
+        pub answer_unmet : (k : ℕ) → first_unmet job.needs split ≡ Some k → judged q split ≡ unmet k
         answer_unmet k e = judged_job q job split known ∙ says_unmet job split (as_improper ∙ proper) safe unlinked k e
 
-        pub answer_right : first_unmet job.needs split ≡ none → judged q split ≡ right
+        pub answer_right : first_unmet job.needs split ≡ None → judged q split ≡ right
         answer_right e = judged_job q job split known ∙ says_right job split (as_improper ∙ proper) safe unlinked e

@@ -2,7 +2,7 @@
 use mathlib.Core.Path.{◌≡◌, refl, sym, ap, ◌∙◌}
 use mathlib.Core.Bool.{Bool, true, false, cond, true≢false}
 use mathlib.Core.List.{List}
-use mathlib.Core.Option.{Option, none, some}
+use Rattle.rules.specs.Options.{Option, None, Some}
 use Prim.Native.Nat.{ℕ}
 use Rattle.rules.specs.Jobs.{Job}
 use Rattle.rules.specs.Numbers.{Numbers, unfit, job_of}
@@ -42,37 +42,37 @@ one_answer q split r s a b = sym (answer_back r) ∙ ap answer_for (a ∙ sym b)
 
 -- ---- refusal 7 exactly if the numbers are unfit, and no other refusal
 
-pub refuses_unfit : (q : Numbers) (split : List ℕ) (r : Verdict) → Judges q split r → refusal_of (verdict_of r) ≡ cond (unfit q) (some numbers_unfit) none
+pub refuses_unfit : (q : Numbers) (split : List ℕ) (r : Verdict) → Judges q split r → refusal_of (verdict_of r) ≡ cond (unfit q) (Some numbers_unfit) None
 refuses_unfit q split r a = ap refusal_of a ∙ judged_refusal q split
 
 -- ---- right exactly if the list is a correct split of the job
 
-right_verdict : (q : Numbers) (job : Job) (split : List ℕ) (r : Verdict) → job_of q ≡ some job → Judges q split r
+right_verdict : (q : Numbers) (job : Job) (split : List ℕ) (r : Verdict) → job_of q ≡ Some job → Judges q split r
     → r ≡ Right → verdict job split ≡ right
 right_verdict q job split r j a e = sym (judged_job q job split j) ∙ sym a ∙ ap verdict_of e
 
-verdict_right : (q : Numbers) (job : Job) (split : List ℕ) (r : Verdict) → job_of q ≡ some job → Judges q split r
+verdict_right : (q : Numbers) (job : Job) (split : List ℕ) (r : Verdict) → job_of q ≡ Some job → Judges q split r
     → verdict job split ≡ right → r ≡ Right
 verdict_right q job split r j a e = one_answer q split r Right a (sym (judged_job q job split j ∙ e))
 
-pub right_if_correct : (q : Numbers) (job : Job) (split : List ℕ) (r : Verdict) → job_of q ≡ some job → Judges q split r
+pub right_if_correct : (q : Numbers) (job : Job) (split : List ℕ) (r : Verdict) → job_of q ≡ Some job → Judges q split r
     → Correct job split → r ≡ Right
 right_if_correct q job split r j a c = verdict_right q job split r j a (correct_right job split (means_correct job split c))
 
 pub correct_if_right : (q : Numbers) (split : List ℕ) (r : Verdict) → Judges q split r
-    → r ≡ Right → (job : Job) × (job_of q ≡ some job) × Correct job split
+    → r ≡ Right → (job : Job) × (job_of q ≡ Some job) × Correct job split
 correct_if_right q split r a e = go (job_of q) refl
   where
-    go : (o : Option Job) → job_of q ≡ o → (job : Job) × (job_of q ≡ some job) × Correct job split
-    go none j =
+    go : (o : Option Job) → job_of q ≡ o → (job : Job) × (job_of q ≡ Some job) × Correct job split
+    go None j =
         let unfit : right ≡ unfit_job = sym (ap verdict_of e) ∙ a ∙ judged_unfit q split j in
         let clash : ◌≡◌ {A = Bool} true false = cc in
         absurd (true≢false clash)
-    go (some job) j = (job, j, correct_means job split (right_correct job split (right_verdict q job split r j a e)))
+    go (Some job) j = (job, j, correct_means job split (right_correct job split (right_verdict q job split r j a e)))
 
 -- ---- demand 3: what is judged right for a job is judged right for one that asks no more
 
-pub less_right : (p q : Numbers) (first second : Job) (split : List ℕ) (r s : Verdict) → job_of p ≡ some first → job_of q ≡ some second
+pub less_right : (p q : Numbers) (first second : Job) (split : List ℕ) (r s : Verdict) → job_of p ≡ Some first → job_of q ≡ Some second
     → AsksNoMore first second → Judges p split r → Judges q split s → r ≡ Right → s ≡ Right
 less_right p q first second split r s i j less a b e =
     verdict_right q second split s j b (less_judged first second less split (right_verdict p first split r i a e))

@@ -1,6 +1,6 @@
 // The fault of a need that no extract meets.
 ghost use Rattle.std.specs.Prelude.{◌≡◌, List, ◌≤◌, length};
-ghost use Rattle.std.proofs.Math.Option.{some};
+ghost use Rattle.rules.specs.Options.{Some};
 ghost use Rattle.rules.specs.Needs.{Need};
 ghost use Rattle.rules.specs.Marks.{need_of, before_end};
 ghost use Rattle.rules.specs.Splits.{met};
@@ -13,7 +13,7 @@ use job::rows::{MOST_NEED_MARKS, MOST_NEEDS};
 
 // Whether an extract meets the need of a row.
 fn need_met(row: &[u16; MOST_NEED_MARKS], split: &[u16]) -> bool
-    ensures { (v : Need) → need_of (before_end row.now) ≡ some v → result ≡ met split.now v }
+    ensures { (v : Need) → need_of (before_end row.now) ≡ Some v → result ≡ met split.now v }
 {
     let mut i = 0;
     while i < split.len() {

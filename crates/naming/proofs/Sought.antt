@@ -2,7 +2,7 @@
 use mathlib.Core.Path.{◌≡◌, refl, ap, ◌∙◌}
 use mathlib.Core.Bool.{Bool, true, false}
 use mathlib.Core.List.{List, [], ◌∷◌}
-use mathlib.Core.Option.{Option, none, some, map, get_or}
+use Rattle.rules.specs.Options.{Option, None, Some, option_map, unwrap_or}
 use Prim.Native.Nat.{ℕ, suc, ◌+◌, ◌<◌, ◌≤◌}
 use native.Mathlib.Nat.{zero-add}
 use native.Mathlib.Omega.{arith}
@@ -86,7 +86,7 @@ pub record Sought (s : List ℕ) (place q column : ℕ) (name : List ℕ) (colum
   later : List Spot
   ahead : Ahead s place q later
   many : column + length later ≡ length columns
-  finds : column_named columns name ≡ map (λ k. column + k) (column_named later name)
+  finds : column_named columns name ≡ option_map (λ k. column + k) (column_named later name)
 
 -- past the signs it is sought among all of the columns
 pub sought_start : {s : List ℕ} {p place q : ℕ} {name : List ℕ} {columns : List Spot} → Words s p q columns → Skips s p place
@@ -94,26 +94,26 @@ pub sought_start : {s : List ℕ} {p place q : ℕ} {name : List ℕ} {columns :
 sought_start {s} {p} {place} {q} {name} {columns} w k =
     record { later = columns; ahead = ahead_start w k; many = omega arith; finds = go (column_named columns name) }
   where
-    go : (o : Option ℕ) → o ≡ map (λ k. 0 + k) o
-    go none = refl
-    go (some k) = rw zero-add
+    go : (o : Option ℕ) → o ≡ option_map (λ k. 0 + k) o
+    go None = refl
+    go (Some k) = rw zero-add
 
 module _ {s : List ℕ} {place q column : ℕ} {name : List ℕ} {columns : List Spot} (sought : Sought s place q column name columns) where
-  sought_nothing : sought.later ≡ [] → get_or (column_named columns name) most_columns ≡ most_columns
+  sought_nothing : sought.later ≡ [] → unwrap_or (column_named columns name) most_columns ≡ most_columns
   unfolding column_named first_where
   sought_nothing e = rw (sought.finds, e)
 
   -- where no name stands it is no column
-  pub sought_none : in_name (byte_at s place) ≡ false → get_or (column_named columns name) most_columns ≡ most_columns
+  pub sought_none : in_name (byte_at s place) ≡ false → unwrap_or (column_named columns name) most_columns ≡ most_columns
   sought_none e = sought_nothing (ahead_end sought.ahead e).1
 
   -- when 16 columns are past it is no column
-  pub sought_all : most_columns ≤ column → length columns ≤ most_columns → get_or (column_named columns name) most_columns ≡ most_columns
+  pub sought_all : most_columns ≤ column → length columns ≤ most_columns → unwrap_or (column_named columns name) most_columns ≡ most_columns
   sought_all h few = sought_nothing (none_left sought.later (omega (arith, sought.many)))
 
   -- where the same name stands it is that column
   pub sought_here : in_name (byte_at s place) ≡ true → ((r : ℕ) → Run s place r → same_name (piece s place r) name ≡ true)
-      → get_or (column_named columns name) most_columns ≡ column
+      → unwrap_or (column_named columns name) most_columns ≡ column
   unfolding column_named first_where
   sought_here e same =
       let f = words_some sought.ahead.words e in
@@ -129,24 +129,24 @@ module _ {s : List ℕ} {place q column : ℕ} {name : List ℕ} {columns : List
         later = f.later;
         ahead = f.ahead;
         many = omega (arith, sought.many, ap (λ (xs : List Spot). length xs) f.same);
-        finds = sought.finds ∙ ap (λ (xs : List Spot). map (λ k. column + k) (column_named xs name)) f.same ∙ rw other (go (column_named f.later name));
+        finds = sought.finds ∙ ap (λ (xs : List Spot). option_map (λ k. column + k) (column_named xs name)) f.same ∙ rw other (go (column_named f.later name));
       }
     where
-      go : (o : Option ℕ) → map (λ k. column + k) (map suc o) ≡ map (λ k. column + 1 + k) o
-      go none = refl
-      go (some k) = let e : column + suc k ≡ column + 1 + k = omega arith in rw e
+      go : (o : Option ℕ) → option_map (λ k. column + k) (option_map suc o) ≡ option_map (λ k. column + 1 + k) o
+      go None = refl
+      go (Some k) = let e : column + suc k ≡ column + 1 + k = omega arith in rw e
 
 -- ---- the column, or 0
 
-module _ (columns : List Spot) (x : Spot) {r : ℕ} (found : r ≡ get_or (column_named columns x.name) most_columns) where
+module _ (columns : List Spot) (x : Spot) {r : ℕ} (found : r ≡ unwrap_or (column_named columns x.name) most_columns) where
   -- a column that was found is the name's column
   pub known_column : r < most_columns → r ≡ column_in columns x
   unfolding column_in
   known_column h = go (column_named columns x.name) found
     where
-      go : (o : Option ℕ) → r ≡ get_or o most_columns → r ≡ get_or o 0
-      go none e = absurd (omega arith)
-      go (some k) e = e
+      go : (o : Option ℕ) → r ≡ unwrap_or o most_columns → r ≡ unwrap_or o 0
+      go None e = absurd (omega arith)
+      go (Some k) e = e
 
   -- where none was found the name's column is 0
   pub unknown_column : length columns ≤ most_columns → most_columns ≤ r → 0 ≡ column_in columns x

@@ -1,6 +1,6 @@
 // Which column a name is.
 ghost use Rattle.std.specs.Prelude.{◌≡◌, List, ℕ, ◌<◌, ◌≤◌, length};
-ghost use Rattle.std.proofs.Math.Option.{get_or};
+ghost use Rattle.rules.specs.Options.{unwrap_or};
 ghost use Rattle.rules.specs.Sets.{most_columns};
 ghost use Rattle.rules.specs.Signs.{piece};
 ghost use Rattle.rules.specs.Names.{Spot, spot, Run};
@@ -18,7 +18,7 @@ pub const COLUMNS_FROM: usize = 8;
 pub fn column_of(text: &[u8], at: usize) -> u16
     ensures few { result ≤ most_columns }
     ensures is { (p q : ℕ) (columns : List Spot) → Words text.now columns_from q columns → length columns ≤ most_columns
-        → Run text.now at p → result ≡ get_or (column_named columns (piece text.now at p)) most_columns }
+        → Run text.now at p → result ≡ unwrap_or (column_named columns (piece text.now at p)) most_columns }
 {
     let mut column: u16 = 0;
     let mut place = next_name(text, COLUMNS_FROM);

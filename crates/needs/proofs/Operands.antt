@@ -2,7 +2,7 @@
 use mathlib.Core.Path.{◌≡◌, refl, ap₂, ◌∙◌}
 use mathlib.Core.Bool.{Bool, true, false, cond, ◌&&◌, ◌||◌}
 use mathlib.Core.List.{List, [], ◌∷◌}
-use mathlib.Core.Option.{some, bind, none-ne-some, some-injective}
+use Rattle.rules.proofs.Options.{Some, bind, none-ne-some, some-injective}
 use Prim.Native.Nat.{ℕ, suc, ◌+◌, ◌-◌, ◌≤◌, ◌<◌}
 use native.Mathlib.Omega.{arith}
 use native.Mathlib.Numerals.{add-one}
@@ -54,9 +54,9 @@ joined_lanes block left right v w false l r lane h = has_or left right lane ∙ 
 -- the marks lead from the operands, which have their words, to the need
 abbrev pub Leads : ℕ → List ℕ → List ℕ → ℕ → Need → Type 0
 Leads block marks words count v =
-    (vs : List Need) × (bind (operands_of marks vs) only ≡ some v) × (count ≡ length vs) × Stacked block words vs
+    (vs : List Need) × (bind (operands_of marks vs) only ≡ Some v) × (count ≡ length vs) × Stacked block words vs
 
-leads_first : (block : ℕ) (marks words : List ℕ) (v : Need) → need_of marks ≡ some v → Leads block marks words 0 v
+leads_first : (block : ℕ) (marks words : List ℕ) (v : Need) → need_of marks ≡ Some v → Leads block marks words 0 v
 unfolding need_of Stacked
 leads_first block marks words v e = ([], e, refl, tt)
 
@@ -68,7 +68,7 @@ leads_last block words count v (w ∷ x ∷ vs, e, n, s) = absurd (none-ne-some 
 
 module _ (block m : ℕ) (marks words : List ℕ) (v : Need) where
   -- a mark leaves a new operand above those that stay: its word is written above theirs
-  leads_new : (vs stay : List Need) (new : Need) (word : ℕ) → after m vs ≡ some (new ∷ stay) → bind (operands_of (m ∷ marks) vs) only ≡ some v
+  leads_new : (vs stay : List Need) (new : Need) (word : ℕ) → after m vs ≡ Some (new ∷ stay) → bind (operands_of (m ∷ marks) vs) only ≡ Some v
       → length stay < length words → Lanes block (meets new) word → Stacked block words stay
       → Leads block marks (set words (length stay) word) (suc (length stay)) v
   unfolding operands_of bind
@@ -107,14 +107,14 @@ pub record Read (block : ℕ) (row : List ℕ) (i : ℕ) (words : List ℕ) (cou
   pub room : length words ≡ 63
   pub within : i ≤ 63
   pub few : count ≤ i
-  pub leads : (v : Need) → need_of (before_end row) ≡ some v → Leads block (before_end (drop i row)) words count v
+  pub leads : (v : Need) → need_of (before_end row) ≡ Some v → Leads block (before_end (drop i row)) words count v
 
 pub read_none : (block : ℕ) (row words : List ℕ) → length row ≡ 63 → length words ≡ 63 → Read block row 0 words 0
 read_none block row words h l =
     record { whole = h; room = l; within = omega arith; few = omega arith; leads = leads_first block (before_end row) words }
 
 module _ {block : ℕ} {row : List ℕ} {i : ℕ} {words : List ℕ} {count : ℕ} (r : Read block row i words count) where
-  pub read_all : before_end (drop i row) ≡ [] → (v : Need) → need_of (before_end row) ≡ some v → Lanes block (meets v) (get_or words 0 0)
+  pub read_all : before_end (drop i row) ≡ [] → (v : Need) → need_of (before_end row) ≡ Some v → Lanes block (meets v) (get_or words 0 0)
   read_all over v e = leads_last block words count v (rw over at (r.leads v e))
 
   module _ (h : i < length row) (n : get_or row i 0 ≡ end_mark → ⊥) where

@@ -2,7 +2,7 @@
 #![tactic(auto)]
 
 ghost use Rattle.std.specs.Prelude.{◌≡◌, cond, eqb};
-ghost use Rattle.std.proofs.Math.Option.{some};
+ghost use Rattle.rules.specs.Options.{Some};
 ghost use Rattle.std.specs.Int.Bits.{bit_and, bit_or};
 ghost use Rattle.rules.specs.Sets.{has};
 ghost use Rattle.rules.specs.Needs.{Need, meets};
@@ -38,7 +38,7 @@ pub fn column_lanes(column: u16, block: u16) -> u64
 // Which sets of a block meet the need of a row. The row's marks end at its first end mark or after 63.
 // A row that is no need gets some word: no join reaches below the first operand.
 pub fn met_lanes(row: &[u16; MOST_NEED_MARKS], block: u16) -> u64
-    ensures { (v : Need) → need_of (before_end row.now) ≡ some v → Lanes block (meets v) result }
+    ensures { (v : Need) → need_of (before_end row.now) ≡ Some v → Lanes block (meets v) result }
 {
     // The proof learns how long the row is where it becomes a slice.
     let marks: &[u16] = row;
@@ -77,7 +77,7 @@ fn joined(mark: u16, left: u64, right: u64) -> u64
 
 // Whether one set meets the need of a row.
 pub fn meets(row: &[u16; MOST_NEED_MARKS], set: u16) -> bool
-    ensures { (v : Need) → need_of (before_end row.now) ≡ some v → result ≡ meets v set }
+    ensures { (v : Need) → need_of (before_end row.now) ≡ Some v → result ≡ meets v set }
 {
     (met_lanes(row, set / 64) >> (set % 64)) % 2 == 1
 }

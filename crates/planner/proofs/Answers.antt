@@ -2,7 +2,7 @@
 use mathlib.Core.Path.{◌≡◌, sym, subst, ◌∙◌}
 use mathlib.Core.Bool.{true, false}
 use mathlib.Core.List.{List}
-use mathlib.Core.Option.{none, some}
+use Rattle.rules.specs.Options.{None, Some}
 use Prim.Native.Nat.{ℕ, ◌*◌, ◌^◌, ◌≤◌, ◌<◌}
 use native.Mathlib.Decide.{dec_lt}
 use native.Mathlib.Omega.{arith}
@@ -66,7 +66,7 @@ module _ (q : Numbers) (old : List ℕ) (l : Loaded) (e : l ≡ loaded q) where
 
     -- the table that was filled says of every set of the columns which needs it meets
     module _ (room : plan_room ≤ length old) (table : List ℕ)
-        (told : (j : Job) → job_of (numbers_in l.job) ≡ some j → Valued (64 * blocks l.job.columns) (gain j) table) where
+        (told : (j : Job) → job_of (numbers_in l.job) ≡ Some j → Valued (64 * blocks l.job.columns) (gain j) table) where
       abbrev job : Job
       job = meant.job
 
@@ -81,7 +81,7 @@ module _ (q : Numbers) (old : List ℕ) (l : Loaded) (e : l ≡ loaded q) where
 
       valued : (s : ℕ) → s < 2 ^ job.columns → in_table table s ≡ gain job s
       valued s h =
-          let known : job_of (numbers_in l.job) ≡ some job = rw (loaded_numbers q l e f) meant.known in
+          let known : job_of (numbers_in l.job) ≡ Some job = rw (loaded_numbers q l e f) meant.known in
           told job known s (sets_within l.job.columns s (subst (λ (n : ℕ). s < 2 ^ n) (sym same_columns) h))
 
       pub empty_gains_nothing : in_table table 0 ≡ 0
@@ -105,7 +105,7 @@ module _ (q : Numbers) (old : List ℕ) (l : Loaded) (e : l ≡ loaded q) where
         plans_none h =
             let s = in_words count new searched in
             let more : length job.needs < count = omega (arith, meant.many) in
-            let none_there : plan job ≡ none = none_plan job fewer (none_correct job fewer fewer_needs (in_table table) valued (s.none more)) in
+            let none_there : plan job ≡ None = none_plan job fewer (none_correct job fewer fewer_needs (in_table table) valued (s.none more)) in
             subst (λ (slice : List ℕ). Plans q old (record { refusal = 9; count = 0 }) slice) (sym (s.stays more))
             (plans_refused q old no_correct_split (planning_none q old job meant.known room none_there))
 

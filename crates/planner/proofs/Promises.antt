@@ -4,7 +4,7 @@ use mathlib.Core.Path.{◌≡◌, refl, sym, ap, ◌∙◌}
 use mathlib.Core.Bool.{true, false}
 use mathlib.Core.List.Memᴰ
 use mathlib.Core.List.{List, [], ◌∷◌, Memᴰ}
-use mathlib.Core.Option.{some, some-injective}
+use Rattle.rules.proofs.Options.{Some, some-injective}
 use Prim.Native.Nat.{ℕ, ◌≤◌}
 use native.Mathlib.Omega.{arith}
 use lib.Dec.{eqb, ltb}
@@ -38,7 +38,7 @@ one_planning q old r s first second a b = (a.answered ∙ sym b.answered, a.extr
 
 -- what a call that is not refused has planned and written
 record Released (old : List ℕ) (job : Job) (r : Planned) (new : List ℕ) (split : List ℕ) : Type 0 where
-  plan : plan job ≡ some split
+  plan : plan job ≡ Some split
   right : IsPlanned job split
   count : r.count ≡ length split
   room : length split ≤ length old
@@ -76,7 +76,7 @@ module _ (q : Numbers) (old : List ℕ) (r : Planned) (new : List ℕ) (a : Plan
       go w f (no_split job known h e) = rw (refusal_as w f, fit_of_job q job known)
       go w f (is_planned job split known h e) = rw (refusal_as w f, fit_of_job q job known)
 
-  module _ (job : Job) (known : job_of q ≡ some job) where
+  module _ (job : Job) (known : job_of q ≡ Some job) where
     -- else 8 exactly if the slice has fewer than 8 places
     pub plans_short : eqb r.refusal slice_too_short ≡ ltb (length old) plan_room
     plans_short = go (planning q old) refl (planning_ways q old)
@@ -115,7 +115,7 @@ module _ (q : Numbers) (old : List ℕ) (r : Planned) (new : List ℕ) (a : Plan
         go w f (is_planned found split g h e) =
             let same : found ≡ job = some-injective found job (sym g ∙ known) in
             let fit = job_fit q job known in
-            let comes : plan job ≡ some split = sym (ap plan same) ∙ e in
+            let comes : plan job ≡ Some split = sym (ap plan same) ∙ e in
             let right : IsPlanned job split = plan_planned job fit.few_columns split comes in (
               split,
               record {
@@ -144,7 +144,7 @@ module _ (q : Numbers) (old : List ℕ) (r : Planned) (new : List ℕ) (a : Plan
 
 -- ---- two jobs
 
-module _ (p q : Numbers) (first second : Job) (of-first : job_of p ≡ some first) (of-second : job_of q ≡ some second) where
+module _ (p q : Numbers) (first second : Job) (of-first : job_of p ≡ Some first) (of-second : job_of q ≡ Some second) where
   -- demand 3: "if the first can be split so can the second, into no more extracts"
   pub less_plans : AsksNoMore first second → (old before : List ℕ) (r s : Planned) (new after : List ℕ) → Plans p old r new → Plans q before s after
       → r.refusal ≡ 0 → plan_room ≤ length before → (s.refusal ≡ 0) × (s.count ≤ r.count)

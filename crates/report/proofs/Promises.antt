@@ -3,7 +3,7 @@ use mathlib.Core.Path.{◌≡◌, refl, sym, ap, subst, ◌∙◌}
 use mathlib.Core.Bool.{true, false}
 use mathlib.Core.List.{List}
 use mathlib.Core.Logic.{◌⊎◌, inl, inr, ◌↔◌}
-use mathlib.Core.Option.{none, some, some-injective}
+use Rattle.rules.proofs.Options.{None, Some, some-injective}
 use Prim.Native.Nat.{ℕ, ◌≤◌, ◌<◌}
 use native.Mathlib.Decide.{dec_lt}
 use native.Mathlib.Omega.{arith}
@@ -61,10 +61,10 @@ pub record TextJob (s : List ℕ) : Type 0 where
   pub right : IsRight sheet
 
 module _ {s : List ℕ} (t : TextJob s) where
-  faultless : sheet_fault t.sheet ≡ none
+  faultless : sheet_fault t.sheet ≡ None
   faultless = (right_exactly t.sheet t.form).1 t.right
 
-  job_known : job_of (numbers_of t.sheet) ≡ some (job_in t.sheet)
+  job_known : job_of (numbers_of t.sheet) ≡ Some (job_in t.sheet)
   job_known = sheet_job s t.sheet t.form faultless
 
   few_columns_lem : length t.sheet.columns ≤ 16
@@ -74,14 +74,14 @@ module _ {s : List ℕ} (t : TextJob s) where
     reads_taken : w ≡ taken (numbers_of t.sheet) (names_of t.sheet)
     reads_taken = one_reading reads (of_form t.sheet t.short t.form) ∙ reading_taken t.sheet faultless
 
-    comes_to_none : plan (job_in t.sheet) ≡ none → outcome_of w ≡ refused no_correct_split 0
+    comes_to_none : plan (job_in t.sheet) ≡ None → outcome_of w ≡ refused no_correct_split 0
     unfolding outcome_of planned_with
     comes_to_none e =
         ap outcome_of reads_taken
         ∙ ap (planned_with (names_of t.sheet))
         (planning_none (numbers_of t.sheet) (replicate plan_room 0) (job_in t.sheet) job_known (omega arith) e)
 
-    comes_to_split : (split : List ℕ) → plan (job_in t.sheet) ≡ some split → outcome_of w ≡ released_with (names_of t.sheet) split
+    comes_to_split : (split : List ℕ) → plan (job_in t.sheet) ≡ Some split → outcome_of w ≡ released_with (names_of t.sheet) split
     unfolding outcome_of planned_with
     comes_to_split split e =
         ap outcome_of reads_taken
@@ -148,7 +148,7 @@ module _ {s old new : List ℕ} {r : Reported} (a : Reports s old r new) where
         let fits : length all ≤ length old = omega (arith, page_fits a.reads, h) in
         (rw (length_is, held) (take_written all old fits), rw (length_is, held) (drop_written all old))
 
-    abbrev releases : (t : TextJob s) (split : List ℕ) → plan (job_in t.sheet) ≡ some split → Released s r new
+    abbrev releases : (t : TextJob s) (split : List ℕ) → plan (job_in t.sheet) ≡ Some split → Released s r new
     releases t split e =
         let o = comes_to_split t a.reads split e in
         record {
@@ -160,13 +160,13 @@ module _ {s old new : List ℕ} {r : Reported} (a : Reports s old r new) where
           held = page_whole.0 ∙ ap page o;
         }
 
-    refuses_none : (t : TextJob s) → plan (job_in t.sheet) ≡ none → (r.refusal ≡ no_correct_split) × (r.place ≡ 0)
+    refuses_none : (t : TextJob s) → plan (job_in t.sheet) ≡ None → (r.refusal ≡ no_correct_split) × (r.place ≡ 0)
     refuses_none t e = let o = comes_to_none t a.reads e in (refusal_as o, place_as o)
 
     -- the text is refused; no split is correct for its job; or the planner's split of its job is released
     data Ends : Type 0 where
       by_text : Reads s (unread r.refusal r.place) → Ends
-      by_none : (t : TextJob s) → plan (job_in t.sheet) ≡ none → Ends
+      by_none : (t : TextJob s) → plan (job_in t.sheet) ≡ None → Ends
       by_split : Released s r new → Ends
 
     ends : Ends
@@ -282,6 +282,6 @@ less_report a b first second asks z room =
     let one = job_in first.sheet in
     let same : x.text.sheet ≡ first.sheet = sheet_unique x.text.form first.form in
     let planned : IsPlanned one x.split = subst (λ (k : Sheet). IsPlanned (job_in k) x.split) same x.planned in
-    let comes : plan one ≡ some x.split = planned_plan one (few_columns_lem first) x.split planned in
+    let comes : plan one ≡ Some x.split = planned_plan one (few_columns_lem first) x.split planned in
     let less = less_planned one (job_in second.sheet) asks (few_columns_lem first) x.split comes in
     (x, releases b room second less.0 less.1, less.2)

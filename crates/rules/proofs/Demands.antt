@@ -3,7 +3,7 @@
 use mathlib.Core.Path.{◌≡◌, sym, ◌∙◌}
 use mathlib.Core.Bool.{true, false}
 use mathlib.Core.List.{List}
-use mathlib.Core.Option.{some}
+use Rattle.rules.specs.Options.{Some}
 use Prim.Native.Nat.{ℕ, ◌≤◌}
 use lib.ListN.{length}
 use Rattle.rules.specs.Sets.{contains}
@@ -47,8 +47,8 @@ module _ (first second : Job) (asks : AsksNoMore first second) where
   less_judged split e = correct_right second split (less_correct split (right_correct first split e))
 
   -- "if the first can be split so can the second, into no more extracts"
-  pub less_planned : first.columns ≤ 16 → (split : List ℕ) → plan first ≡ some split
-      → (other : List ℕ) × (plan second ≡ some other) × (length other ≤ length split)
+  pub less_planned : first.columns ≤ 16 → (split : List ℕ) → plan first ≡ Some split
+      → (other : List ℕ) × (plan second ≡ Some other) × (length other ≤ length split)
   less_planned h split e =
       let c = less_correct split (plan_planned first h split e).right in
       let k : second.columns ≤ 16 = rw asks.columns h in

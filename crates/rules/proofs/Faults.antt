@@ -3,7 +3,7 @@ use mathlib.Core.Path.{◌≡◌, refl, sym, ap, subst}
 use mathlib.Core.Logic.{◌⊎◌, inl, inr, ◌↔◌}
 use mathlib.Core.Bool.{Bool, true, false, cond}
 use mathlib.Core.List.{List}
-use mathlib.Core.Option.{Option, none, some, map, or_else}
+use Rattle.rules.specs.Options.{Option, None, Some, option_map, option_or}
 use Prim.Native.Nat.{ℕ, ◌<◌}
 use native.Mathlib.Omega.{arith}
 use borrow.Author.Tests.{eqb-true, eqb-false}
@@ -55,8 +55,8 @@ module _ (sheet : Sheet) where
 
   -- what the search finds
   abbrev Found : Option Refusal → Type 0
-  Found none = IsRight sheet
-  Found (some f) = HasFault sheet f
+  Found None = IsRight sheet
+  Found (Some f) = HasFault sheet f
 
   module _ {s : List ℕ} (form : OfForm s sheet) where
     -- such a fault stands within the text
@@ -66,29 +66,29 @@ module _ (sheet : Sheet) where
     fault_place (end_wrong a b c) = (sheet_ends form).1
 
     found : Found (sheet_fault sheet)
-    unfolding sheet_fault end_fault or_else
+    unfolding sheet_fault end_fault
     found = go (first_over sheet) refl (names_fault sheet) refl (eqb sheet.ended.value (lines_in sheet)) refl
       where
         go : (o : Option ℕ) → first_over sheet ≡ o → (n : Option Refusal) → names_fault sheet ≡ n → (t : Bool) → eqb sheet.ended.value (lines_in sheet) ≡ t
-            → Found (or_else (map (refusal too_many_parts) o) (or_else n (cond t none (some (refusal end_number_other sheet.ended.place)))))
-        go (some p) e n h t k = let r = over_smallest sheet p form e in too_many r.0 r.1
-        go none e (some f) h t k = let r = names_fault_smallest sheet f form h in name_wrong (λ q. over_none sheet q e) r.0 r.1
-        go none e none h true k =
+            → Found (option_or (option_map (refusal too_many_parts) o) (option_or n (cond t None (Some (refusal end_number_other sheet.ended.place)))))
+        go (Some p) e n h t k = let r = over_smallest sheet p form e in too_many r.0 r.1
+        go None e (Some f) h t k = let r = names_fault_smallest sheet f form h in name_wrong (λ q. over_none sheet q e) r.0 r.1
+        go None e None h true k =
             record { counts = λ q. over_none sheet q e; names = λ f. names_fault_none sheet f h; end = eqb-true _ _ k }
-        go none e none h false k = end_wrong (λ q. over_none sheet q e) (λ f. names_fault_none sheet f h) (eqb-false _ _ k)
+        go None e None h false k = end_wrong (λ q. over_none sheet q e) (λ f. names_fault_none sheet f h) (eqb-false _ _ k)
 
     -- a text of the form has no fault exactly if its counts, names and end number are right
-    pub right_exactly : (sheet_fault sheet ≡ none) ↔ IsRight sheet
+    pub right_exactly : (sheet_fault sheet ≡ None) ↔ IsRight sheet
     right_exactly = (λ e. subst Found e found, λ r. go (sheet_fault sheet) found r)
       where
-        go : (o : Option Refusal) → Found o → IsRight sheet → o ≡ none
-        go none h r = refl
-        go (some f) h r = absurd (right_or_fault r h)
+        go : (o : Option Refusal) → Found o → IsRight sheet → o ≡ None
+        go None h r = refl
+        go (Some f) h r = absurd (right_or_fault r h)
 
     -- a text of the form is refused with this number and place exactly if it has this fault
-    pub fault_exactly : (f : Refusal) → (sheet_fault sheet ≡ some f) ↔ HasFault sheet f
+    pub fault_exactly : (f : Refusal) → (sheet_fault sheet ≡ Some f) ↔ HasFault sheet f
     fault_exactly f = (λ e. subst Found e found, λ r. go (sheet_fault sheet) found r)
       where
-        go : (o : Option Refusal) → Found o → HasFault sheet f → o ≡ some f
-        go none h r = absurd (right_or_fault h r)
-        go (some g) h r = ap (λ (k : Refusal). some k) (fault_unique h r)
+        go : (o : Option Refusal) → Found o → HasFault sheet f → o ≡ Some f
+        go None h r = absurd (right_or_fault h r)
+        go (Some g) h r = ap (λ (k : Refusal). Some k) (fault_unique h r)

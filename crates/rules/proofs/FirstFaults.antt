@@ -2,7 +2,7 @@
 use mathlib.Core.Path.{◌≡◌, refl, ap}
 use mathlib.Core.Bool.{Bool, true, false, not, ◌||◌, ◌&&◌}
 use mathlib.Core.List.{List, [], ◌∷◌}
-use mathlib.Core.Option.{none, some, or_else}
+use Rattle.rules.specs.Options.{None, Some}
 use Prim.Native.Nat.{ℕ, zero, suc, ◌<◌}
 use native.Mathlib.Omega.{arith}
 use lib.Dec.{eqb}
@@ -23,22 +23,22 @@ use Rattle.rules.proofs.Searches.{NoneBefore, first_found, nothing_found}
 module _ (job : Job) where
   -- the extracts before i break no forbidden set
   abbrev pub SafeBefore : List ℕ → ℕ → Type 0
-  SafeBefore split i = (k : ℕ) → k < i → first_where (breaks job (get_or split k 0)) job.forbidden ≡ none
+  SafeBefore split i = (k : ℕ) → k < i → first_where (breaks job (get_or split k 0)) job.forbidden ≡ None
 
   pub forbidden_found : (split : List ℕ) (i j : ℕ) → i < length split → SafeBefore split i
-      → first_where (breaks job (get_or split i 0)) job.forbidden ≡ some j → first_forbidden job split ≡ some (record { i = i; j = j })
-  unfolding first_forbidden or_else
+      → first_where (breaks job (get_or split i 0)) job.forbidden ≡ Some j → first_forbidden job split ≡ Some (record { i = i; j = j })
+  unfolding first_forbidden
   forbidden_found [] i j h before e = absurd (omega arith)
   forbidden_found (s ∷ split) zero j h before e = rw e
   forbidden_found (s ∷ split) (suc i) j h before e =
-      let here : first_where (breaks job s) job.forbidden ≡ none = before 0 (omega arith) in
+      let here : first_where (breaks job s) job.forbidden ≡ None = before 0 (omega arith) in
       rw (here, forbidden_found split i j (omega arith) (λ k l. before (suc k) (omega arith)) e)
 
-  pub forbidden_nothing : (split : List ℕ) → SafeBefore split (length split) → first_forbidden job split ≡ none
-  unfolding first_forbidden or_else
+  pub forbidden_nothing : (split : List ℕ) → SafeBefore split (length split) → first_forbidden job split ≡ None
+  unfolding first_forbidden
   forbidden_nothing [] before = refl
   forbidden_nothing (s ∷ split) before =
-      let here : first_where (breaks job s) job.forbidden ≡ none = before 0 (omega arith) in
+      let here : first_where (breaks job s) job.forbidden ≡ None = before 0 (omega arith) in
       rw (here, forbidden_nothing split (λ k l. before (suc k) (omega arith)))
 
 -- ---- extracts i and j, i below j, share a column
@@ -59,22 +59,22 @@ module _ (job : Job) where
   others_before s split i before k h m l g = before (suc k) (omega arith) (suc m) (omega arith) (omega arith)
 
   pub sharing_found : (split : List ℕ) (i j : ℕ) → i < j → j < length split → UnlinkedBefore split i → UnlinkedTo split i j
-      → unlinked job (get_or split i 0) (get_or split j 0) ≡ false → first_sharing job split ≡ some (record { i = i; j = j })
-  unfolding first_sharing or_else
+      → unlinked job (get_or split i 0) (get_or split j 0) ≡ false → first_sharing job split ≡ Some (record { i = i; j = j })
+  unfolding first_sharing
   sharing_found [] i j o h before to e = absurd (omega arith)
   sharing_found (s ∷ split) i zero o h before to e = absurd (omega arith)
   sharing_found (s ∷ split) zero (suc j) o h before to e =
       rw (first_found (λ t. not (unlinked job s t)) 0 split j (omega arith) (first_later s split j to) (ap not e))
   sharing_found (s ∷ split) (suc i) (suc j) o h before to e =
-      let here : first_where (λ t. not (unlinked job s t)) split ≡ none =
+      let here : first_where (λ t. not (unlinked job s t)) split ≡ None =
       nothing_found (λ t. not (unlinked job s t)) 0 split (first_later s split (length split) (before 0 (omega arith))) in
       rw (here, sharing_found split i j (omega arith) (omega arith) (others_before s split i before) (λ k l g. to (suc k) (omega arith) (omega arith)) e)
 
-  pub sharing_nothing : (split : List ℕ) → UnlinkedBefore split (length split) → first_sharing job split ≡ none
-  unfolding first_sharing or_else
+  pub sharing_nothing : (split : List ℕ) → UnlinkedBefore split (length split) → first_sharing job split ≡ None
+  unfolding first_sharing
   sharing_nothing [] before = refl
   sharing_nothing (s ∷ split) before =
-      let here : first_where (λ t. not (unlinked job s t)) split ≡ none =
+      let here : first_where (λ t. not (unlinked job s t)) split ≡ None =
       nothing_found (λ t. not (unlinked job s t)) 0 split (first_later s split (length split) (before 0 (omega arith))) in
       rw (here, sharing_nothing split (others_before s split (length split) before))
 
@@ -91,27 +91,27 @@ met_nothing v split before = first_none (meets v) split (nothing_found (meets v)
 -- ---- the first fault of all
 
 module _ (job : Job) (split : List ℕ) where
-  pub says_improper : (i : ℕ) → first_improper job split ≡ some i → verdict job split ≡ improper i
-  unfolding verdict first_fault or_else
+  pub says_improper : (i : ℕ) → first_improper job split ≡ Some i → verdict job split ≡ improper i
+  unfolding verdict first_fault
   says_improper i e = rw e
 
-  module _ (proper_all : first_improper job split ≡ none) where
-    pub says_forbids : (p : Places) → first_forbidden job split ≡ some p → verdict job split ≡ forbids p.i p.j
-    unfolding verdict first_fault or_else
+  module _ (proper_all : first_improper job split ≡ None) where
+    pub says_forbids : (p : Places) → first_forbidden job split ≡ Some p → verdict job split ≡ forbids p.i p.j
+    unfolding verdict first_fault
     says_forbids p e = rw (proper_all, e)
 
-    module _ (safe_all : first_forbidden job split ≡ none) where
-      pub says_shares : (p : Places) → first_sharing job split ≡ some p → verdict job split ≡ shares p.i p.j
-      unfolding verdict first_fault or_else
+    module _ (safe_all : first_forbidden job split ≡ None) where
+      pub says_shares : (p : Places) → first_sharing job split ≡ Some p → verdict job split ≡ shares p.i p.j
+      unfolding verdict first_fault
       says_shares p e = rw (proper_all, safe_all, e)
 
-      module _ (unlinked_all : first_sharing job split ≡ none) where
-        pub says_unmet : (k : ℕ) → first_unmet job.needs split ≡ some k → verdict job split ≡ unmet k
-        unfolding verdict first_fault or_else
+      module _ (unlinked_all : first_sharing job split ≡ None) where
+        pub says_unmet : (k : ℕ) → first_unmet job.needs split ≡ Some k → verdict job split ≡ unmet k
+        unfolding verdict first_fault
         says_unmet k e = rw (proper_all, safe_all, unlinked_all, e)
 
-        pub says_right : first_unmet job.needs split ≡ none → verdict job split ≡ right
-        unfolding verdict first_fault or_else
+        pub says_right : first_unmet job.needs split ≡ None → verdict job split ≡ right
+        unfolding verdict first_fault
         says_right e = rw (proper_all, safe_all, unlinked_all, e)
 
 -- ---- what is unfit as a forbidden set is improper as an extract

@@ -1,4 +1,5 @@
 -- The laws of the definitions in specs/, a file for each subject, in the order in which they build on each other.
+pub mod Options
 pub mod Lists
 pub mod Searches
 pub mod Written

@@ -2,7 +2,7 @@
 use mathlib.Core.Path.{◌≡◌, refl, sym, ap, ◌∙◌}
 use mathlib.Core.Bool.{Bool, true, false, cond, ◌&&◌, ◌||◌, false≢true, and_assoc}
 use mathlib.Core.List.{List, [], ◌∷◌, ◌++◌}
-use mathlib.Core.Option.{some, map}
+use Rattle.rules.specs.Options.{Some, option_map}
 use Prim.Native.Nat.{ℕ, suc, ◌<◌}
 use native.Mathlib.Omega.{arith}
 use lib.ListN.{length, get_or}
@@ -35,12 +35,12 @@ module _ {A : Type 0} (p : A → Bool) where
   every_places xs d f = every_all p xs λ x m. let r = in_get_d d m in sym (ap p r.2) ∙ f r.0 r.1
 
   -- where a test holds of one there is a first place of which it holds
-  pub first_below : (xs : List A) → any_of p xs ≡ true → (i : ℕ) × (first_where p xs ≡ some i) × (i < length xs)
+  pub first_below : (xs : List A) → any_of p xs ≡ true → (i : ℕ) × (first_where p xs ≡ Some i) × (i < length xs)
   unfolding any_of first_where
   first_below [] e = absurd (false≢true e)
   first_below (x ∷ xs) e = go (p x) e (first_below xs)
     where
-      go : (b : Bool) → (b || any_of p xs) ≡ true → (any_of p xs ≡ true → (i : ℕ) × (first_where p xs ≡ some i) × (i < length xs))
-          → (i : ℕ) × (cond b (some 0) (map suc (first_where p xs)) ≡ some i) × (i < suc (length xs))
+      go : (b : Bool) → (b || any_of p xs) ≡ true → (any_of p xs ≡ true → (i : ℕ) × (first_where p xs ≡ Some i) × (i < length xs))
+          → (i : ℕ) × (cond b (Some 0) (option_map suc (first_where p xs)) ≡ Some i) × (i < suc (length xs))
       go true q f = (0, refl, omega arith)
-      go false q f = let r = f q in (suc r.0, ap (map suc) r.1, omega arith)
+      go false q f = let r = f q in (suc r.0, ap (option_map suc) r.1, omega arith)

@@ -4,7 +4,7 @@ use mathlib.Core.Logic.{◌⊎◌, inl, inr}
 use mathlib.Core.Bool.{Bool, true, false, not, cond, ◌&&◌, ◌||◌, true≢false, false≢true, and-eq-true_iff, or-false, or_assoc}
 use mathlib.Core.List.Memᴰ
 use mathlib.Core.List.{List, [], ◌∷◌, ◌++◌, Memᴰ}
-use mathlib.Core.Option.{Option, none, some, map, some-injective, none-ne-some}
+use Rattle.rules.proofs.Options.{Option, None, Some, option_map, some-injective, none-ne-some}
 use Prim.Native.Nat.{ℕ, zero, suc, ◌+◌, ◌≤◌, ◌<◌}
 use native.Mathlib.Decide.{ℕ_discrete}
 use native.Mathlib.Omega.{arith}
@@ -124,11 +124,11 @@ module _ {A : Type 0} where
   drop_in (suc k) (y ∷ xs) m = Memᴰ.tail (drop_in k xs m)
 
   -- so is the first one behind them
-  pub after_in : {x : A} (k : ℕ) (xs : List A) → first_of (drop k xs) ≡ some x → Memᴰ x xs
+  pub after_in : {x : A} (k : ℕ) (xs : List A) → first_of (drop k xs) ≡ Some x → Memᴰ x xs
   unfolding first_of
   after_in {x} k xs e = drop_in k xs (go (drop k xs) e)
     where
-      go : (ys : List A) → first_of ys ≡ some x → Memᴰ x ys
+      go : (ys : List A) → first_of ys ≡ Some x → Memᴰ x ys
       go [] f = absurd (none-ne-some x f)
       go (y ∷ ys) f = Memᴰ.head (sym (some-injective _ _ f))
 
@@ -193,18 +193,18 @@ module _ {A : Type 0} where
 
   -- ---- the first where
 
-  pub first_none : (p : A → Bool) (xs : List A) → first_where p xs ≡ none → any_of p xs ≡ false
+  pub first_none : (p : A → Bool) (xs : List A) → first_where p xs ≡ None → any_of p xs ≡ false
   unfolding first_where any_of
   first_none p [] e = refl
   first_none p (x ∷ xs) e = go (p x) (first_where p xs) (first_none p xs) e
     where
-      go : (b : Bool) (o : Option ℕ) → (o ≡ none → any_of p xs ≡ false) → cond b (some 0) (map suc o) ≡ none
+      go : (b : Bool) (o : Option ℕ) → (o ≡ None → any_of p xs ≡ false) → cond b (Some 0) (option_map suc o) ≡ None
           → (b || any_of p xs) ≡ false
       go true o f q = let z : ◌≡◌ {A = Bool} true false = cc in absurd (true≢false z)
-      go false none f q = f refl
-      go false (some i) f q = let z : ◌≡◌ {A = Bool} true false = cc in absurd (true≢false z)
+      go false None f q = f refl
+      go false (Some i) f q = let z : ◌≡◌ {A = Bool} true false = cc in absurd (true≢false z)
 
-  pub none_first : (p : A → Bool) (xs : List A) → any_of p xs ≡ false → first_where p xs ≡ none
+  pub none_first : (p : A → Bool) (xs : List A) → any_of p xs ≡ false → first_where p xs ≡ None
   unfolding first_where any_of
   none_first p [] e = refl
   none_first p (x ∷ xs) e =
@@ -231,9 +231,9 @@ up_from_in i (suc k) x l h = go (ℕ_discrete x i) (up_from_in (suc i) k x)
 pub up_from_append : (i j k : ℕ) → up_from i (j + k) ≡ up_from i j ++ up_from (i + j) k
 unfolding up_from
 up_from_append i zero k =
-    let none : 0 + k ≡ k = omega arith in
+    let None : 0 + k ≡ k = omega arith in
     let here : i + 0 ≡ i = omega arith in
-    rw (none, here)
+    rw (None, here)
 up_from_append i (suc j) k =
     let one : suc j + k ≡ suc (j + k) = omega arith in
     let next : i + suc j ≡ suc i + j = omega arith in

@@ -2,7 +2,7 @@
 use mathlib.Core.Path.{◌≡◌, refl, sym, ap, ◌∙◌}
 use mathlib.Core.Bool.{Bool, true, false, not, and-false}
 use mathlib.Core.List.{List, [], ◌∷◌, ◌++◌, map, append-nil, append_assoc}
-use mathlib.Core.Option.{some, bind}
+use Rattle.rules.specs.Options.{Some, bind}
 use Prim.Native.Nat.{ℕ, ◌+◌, ◌*◌, ◌≤◌, ◌<◌}
 use native.Mathlib.Omega.{arith}
 use lib.Dec.{ltb, leb}
@@ -128,18 +128,18 @@ module _ (columns : List Spot) where
       ∙ operands_in w (or_mark ∷ more) (need_in columns v ∷ operands) below.1)
 
   -- a formula's marks alone leave its need alone
-  operands_alone : (v : Formula) → columns_below and_mark (names_in v) ≡ true → operands_of (marks_in columns v) [] ≡ some (need_in columns v ∷ [])
+  operands_alone : (v : Formula) → columns_below and_mark (names_in v) ≡ true → operands_of (marks_in columns v) [] ≡ Some (need_in columns v ∷ [])
   unfolding operands_of
   operands_alone v h = ap (λ (row : List ℕ). operands_of row []) (sym (append-nil (marks_in columns v))) ∙ operands_in v [] [] h
 
   -- a formula's marks stand for the need it says
-  pub need_in_lem : (v : Formula) → columns_below and_mark (names_in v) ≡ true → need_of (marks_in columns v) ≡ some (need_in columns v)
+  pub need_in_lem : (v : Formula) → columns_below and_mark (names_in v) ≡ true → need_of (marks_in columns v) ≡ Some (need_in columns v)
   unfolding need_of bind only
   need_in_lem v h = rw (operands_alone v h)
 
   -- the rows of lines stand for the needs that the lines say
   pub needs_in : (lines : List (Line Formula)) → lines_below and_mark lines ≡ true
-      → needs_of (map (λ l. marks_in columns l.value) lines) ≡ some (map (λ l. need_in columns l.value) lines)
+      → needs_of (map (λ l. marks_in columns l.value) lines) ≡ Some (map (λ l. need_in columns l.value) lines)
   unfolding needs_of bind every
   needs_in [] h = refl
   needs_in (l ∷ lines) h =

@@ -3,7 +3,7 @@ use mathlib.Core.Path.{◌≡◌, refl, sym, ap}
 use mathlib.Core.Bool.{Bool, true, false, not, cond, ◌&&◌, ◌||◌, true≢false, false≢true, or_assoc}
 use mathlib.Core.List.{List, [], ◌∷◌}
 use mathlib.Core.Logic.{◌⊎◌, inl, inr}
-use mathlib.Core.Option.{some, bind-eq-some_iff, some-injective, none-ne-some}
+use Rattle.rules.proofs.Options.{Some, bind-eq-some_iff, some-injective, none-ne-some}
 use Prim.Native.Nat.{ℕ, suc, ◌+◌, ◌-◌, ◌*◌, ◌≤◌, ◌<◌}
 use native.Mathlib.Numerals.{add-one}
 use native.Mathlib.Omega.{arith}
@@ -145,7 +145,7 @@ join_test m (inr b) = rw b.1
 pub not_join : (m : ℕ) → (m ≡ and_mark → ⊥) → (m ≡ or_mark → ⊥) → is_join m ≡ false
 not_join m a b = rw (ne_eqb m and_mark a, ne_eqb m or_mark b)
 
-pub after_column : (m : ℕ) (vs : List Need) → is_join m ≡ false → after m vs ≡ some (column m ∷ vs)
+pub after_column : (m : ℕ) (vs : List Need) → is_join m ≡ false → after m vs ≡ Some (column m ∷ vs)
 unfolding after
 after_column m vs j = let parts = or_neither (eqb m and_mark) (eqb m or_mark) j in rw (parts.0, parts.1)
 
@@ -154,7 +154,7 @@ unfolding after
 after_join m vs = go (eqb m and_mark) (eqb m or_mark)
   where
     go : (a o : Bool) → (a || o) ≡ true
-        → cond a (joined both vs) (cond o (joined either vs) (some (column m ∷ vs))) ≡ joined (cond a both either) vs
+        → cond a (joined both vs) (cond o (joined either vs) (Some (column m ∷ vs))) ≡ joined (cond a both either) vs
     go true o e = refl
     go false true e = refl
     go false false e = absurd (false≢true e)
@@ -165,18 +165,18 @@ after_join m vs = go (eqb m and_mark) (eqb m or_mark)
 abbrev pub below_end : List ℕ → Bool
 below_end = every (λ m. ltb m end_mark)
 
-joined_length : (join : Need → Need → Need) (vs us : List Need) → joined join vs ≡ some us → length vs ≡ suc (length us)
+joined_length : (join : Need → Need → Need) (vs us : List Need) → joined join vs ≡ Some us → length vs ≡ suc (length us)
 unfolding joined
 joined_length join [] us e = absurd (none-ne-some us e)
 joined_length join (w ∷ []) us e = absurd (none-ne-some us e)
 joined_length join (w ∷ v ∷ vs) us e = ap (λ (l : List Need). suc (length l)) (some-injective (join v w ∷ vs) us e)
 
-after_length : (m : ℕ) (vs us : List Need) → m < end_mark → after m vs ≡ some us → suc (length us) ≡ length vs + cond (ltb m and_mark) 2 0
+after_length : (m : ℕ) (vs us : List Need) → m < end_mark → after m vs ≡ Some us → suc (length us) ≡ length vs + cond (ltb m and_mark) 2 0
 unfolding after
 after_length m vs us h e = go (eqb m and_mark) (eqb m or_mark) refl refl e
   where
     go : (a b : Bool) → eqb m and_mark ≡ a → eqb m or_mark ≡ b
-        → cond a (joined both vs) (cond b (joined either vs) (some (column m ∷ vs))) ≡ some us
+        → cond a (joined both vs) (cond b (joined either vs) (Some (column m ∷ vs))) ≡ Some us
         → suc (length us) ≡ length vs + cond (ltb m and_mark) 2 0
     go true b p q f =
         let n = eqb-true m and_mark p in
@@ -189,7 +189,7 @@ after_length m vs us h e = go (eqb m and_mark) (eqb m or_mark) refl refl e
         let o = eqb-false m or_mark q in
         rw (lt-ltb m and_mark (omega arith)) (omega (arith, ap length (some-injective (column m ∷ vs) us f)))
 
-operands_marks : (row : List ℕ) (vs ws : List Need) → below_end row ≡ true → operands_of row vs ≡ some ws
+operands_marks : (row : List ℕ) (vs ws : List Need) → below_end row ≡ true → operands_of row vs ≡ Some ws
     → length row + length ws ≡ length vs + 2 * length (keep (λ m. ltb m and_mark) row)
 unfolding operands_of every keep bind-eq-some_iff
 operands_marks [] vs ws h e = omega (arith, ap length (some-injective vs ws e))
@@ -205,7 +205,7 @@ operands_marks (m ∷ row) vs ws h e =
     go k true p f = omega arith
     go k false p f = omega arith
 
-only_length : (vs : List Need) (v : Need) → only vs ≡ some v → length vs ≡ 1
+only_length : (vs : List Need) (v : Need) → only vs ≡ Some v → length vs ≡ 1
 unfolding only
 only_length [] v e = absurd (none-ne-some v e)
 only_length (w ∷ []) v e = refl

@@ -3,8 +3,7 @@ use mathlib.Core.Path.{◌≡◌, refl, sym, ap, subst, ◌∙◌}
 use mathlib.Core.Logic.{◌⊎◌, inl, inr}
 use mathlib.Core.Bool.{Bool, true, false, cond}
 use mathlib.Core.List.{List, [], ◌∷◌, ◌++◌, map, Memᴰ, append-nil, append_assoc}
-use mathlib.Core.Option
-use mathlib.Core.Option.{Option, none, some, or_else, some-injective, none-ne-some, map-eq-none_iff}
+use Rattle.rules.proofs.Options.{Option, None, Some, option_or, some-injective, none-ne-some, map-eq-none_iff, option_map}
 use Prim.Native.Nat.{ℕ, ◌<◌, ◌≤◌}
 use native.Mathlib.Omega.{arith}
 use lib.ListN.{length}
@@ -35,7 +34,7 @@ among_stands names x a = any_in (λ (c : Spot). same_name c.name x.name) a.stand
 module _ (fault : List Spot → Spot → Option ℕ) where
   -- a fault of one of these names, which stand after the names before them
   data FaultIn : List Spot → List Spot → Refusal → Type 0 where
-    now : {before names : List Spot} {x : Spot} {n : ℕ} → fault before x ≡ some n → FaultIn before (x ∷ names) (refusal n x.place)
+    now : {before names : List Spot} {x : Spot} {n : ℕ} → fault before x ≡ Some n → FaultIn before (x ∷ names) (refusal n x.place)
     later : {before names : List Spot} {x : Spot} {f : Refusal} → FaultIn (before ++ (x ∷ [])) names f → FaultIn before (x ∷ names) f
 
   fault_within : {p q : ℕ} {before names : List Spot} {f : Refusal} → NamesRise p q names → FaultIn before names f → (p ≤ f.place) × (f.place < q)
@@ -52,21 +51,21 @@ module _ (fault : List Spot → Spot → Option ℕ) where
 
   fault_smallest : {p q : ℕ} (before : List Spot) {names : List Spot} → NamesRise p q names
       → Smallest (λ f. f.place) (FaultIn before names) (first_name_fault fault before names)
-  unfolding first_name_fault or_else
+  unfolding first_name_fault
   fault_smallest before (nothing l) = smallest_none _ _
   fault_smallest before (onward {x} {xs = names} l r) = go (fault before x) refl (fault_smallest (before ++ (x ∷ [])) r)
     where
       go : (o : Option ℕ) → fault before x ≡ o
           → Smallest (λ f. f.place) (FaultIn (before ++ (x ∷ [])) names) (first_name_fault fault (before ++ (x ∷ [])) names)
           → Smallest (λ f. f.place) (FaultIn before (x ∷ names))
-          (or_else (Option.map (λ number. refusal number x.place) o) (first_name_fault fault (before ++ (x ∷ [])) names))
-      go none e ih = λ f h. (later (ih f h).0, other f h)
+          (option_or (option_map (λ number. refusal number x.place) o) (first_name_fault fault (before ++ (x ∷ [])) names))
+      go None e ih = λ f h. (later (ih f h).0, other f h)
         where
-          other : (f : Refusal) → first_name_fault fault (before ++ (x ∷ [])) names ≡ some f → (g : Refusal) → FaultIn before (x ∷ names) g
+          other : (f : Refusal) → first_name_fault fault (before ++ (x ∷ [])) names ≡ Some f → (g : Refusal) → FaultIn before (x ∷ names) g
               → (f ≡ g) ⊎ (f.place < g.place)
           other f h g (now {n} i) = absurd (none-ne-some n (sym e ∙ i))
           other f h g (later i) = (ih f h).1 g i
-      go (some n) e ih = smallest_some _ _ (refusal n x.place) (now e) other
+      go (Some n) e ih = smallest_some _ _ (refusal n x.place) (now e) other
         where
           other : (g : Refusal) → FaultIn before (x ∷ names) g → (refusal n x.place ≡ g) ⊎ (x.place < g.place)
           other g (now {n = m} i) = inl (ap (λ (k : ℕ). refusal k x.place) (some-injective n m (sym e ∙ i)))
@@ -74,7 +73,7 @@ module _ (fault : List Spot → Spot → Option ℕ) where
 
   -- the same by what stands before and after the name at fault
   data FaultAt (earlier names : List Spot) : Refusal → Type 0 where
-    fault_at : (before after : List Spot) (x : Spot) (n : ℕ) → names ≡ before ++ (x ∷ after) → fault (earlier ++ before) x ≡ some n
+    fault_at : (before after : List Spot) (x : Spot) (n : ℕ) → names ≡ before ++ (x ∷ after) → fault (earlier ++ before) x ≡ Some n
         → FaultAt earlier names (refusal n x.place)
 
   in_at : {earlier names : List Spot} {f : Refusal} → FaultIn earlier names f → FaultAt earlier names f
@@ -86,13 +85,13 @@ module _ (fault : List Spot → Spot → Option ℕ) where
           fault_at (y ∷ before) after x n (ap (λ (xs : List Spot). y ∷ xs) q)
           (ap (λ (b : List Spot). fault b x) (sym (append_assoc earlier (y ∷ []) before)) ∙ e)
 
-  at_in : (earlier before after : List Spot) (x : Spot) (n : ℕ) → fault (earlier ++ before) x ≡ some n
+  at_in : (earlier before after : List Spot) (x : Spot) (n : ℕ) → fault (earlier ++ before) x ≡ Some n
       → FaultIn earlier (before ++ (x ∷ after)) (refusal n x.place)
   at_in earlier [] after x n e = now (ap (λ (b : List Spot). fault b x) (sym (append-nil earlier)) ∙ e)
   at_in earlier (y ∷ before) after x n e =
       later (at_in (earlier ++ (y ∷ [])) before after x n (ap (λ (b : List Spot). fault b x) (append_assoc earlier (y ∷ []) before) ∙ e))
 
-  at_first : {names : List Spot} (before after : List Spot) (x : Spot) (n : ℕ) → names ≡ before ++ (x ∷ after) → fault before x ≡ some n
+  at_first : {names : List Spot} (before after : List Spot) (x : Spot) (n : ℕ) → names ≡ before ++ (x ∷ after) → fault before x ≡ Some n
       → FaultIn [] names (refusal n x.place)
   at_first before after x n q e = rw q (at_in [] before after x n e)
 
@@ -147,15 +146,15 @@ module _ {A : Type 0} (names_at : A → List Spot) (fault : List Spot → Spot �
 
 -- ---- what the tests say
 
-column_means : (before : List Spot) (x : Spot) (n : ℕ) → column_fault before x ≡ some n → Among before x × (n ≡ name_twice)
+column_means : (before : List Spot) (x : Spot) (n : ℕ) → column_fault before x ≡ Some n → Among before x × (n ≡ name_twice)
 unfolding column_fault
 column_means before x n e = go (stands_in before x) refl e
   where
-    go : (t : Bool) → stands_in before x ≡ t → cond t (some name_twice) none ≡ some n → Among before x × (n ≡ name_twice)
+    go : (t : Bool) → stands_in before x ≡ t → cond t (Some name_twice) None ≡ Some n → Among before x × (n ≡ name_twice)
     go true h q = (stands_among before x h, sym (some-injective name_twice n q))
     go false h q = absurd (none-ne-some n q)
 
-means_column : (before : List Spot) (x : Spot) → Among before x → column_fault before x ≡ some name_twice
+means_column : (before : List Spot) (x : Spot) → Among before x → column_fault before x ≡ Some name_twice
 unfolding column_fault
 means_column before x a = rw (among_stands before x a)
 
@@ -163,34 +162,34 @@ not_among : (names : List Spot) (x : Spot) → stands_in names x ≡ false → A
 not_among names x e a = holds_fails (stands_in names x) (among_stands names x a) e
 
 module _ (columns before : List Spot) (x : Spot) where
-  need_means : (n : ℕ) → need_fault columns before x ≡ some n → (Among columns x → ⊥) × (n ≡ name_unknown)
+  need_means : (n : ℕ) → need_fault columns before x ≡ Some n → (Among columns x → ⊥) × (n ≡ name_unknown)
   unfolding need_fault
   need_means n e = go (stands_in columns x) refl e
     where
-      go : (t : Bool) → stands_in columns x ≡ t → cond t none (some name_unknown) ≡ some n → (Among columns x → ⊥) × (n ≡ name_unknown)
+      go : (t : Bool) → stands_in columns x ≡ t → cond t None (Some name_unknown) ≡ Some n → (Among columns x → ⊥) × (n ≡ name_unknown)
       go true h q = absurd (none-ne-some n q)
       go false h q = (not_among columns x h, sym (some-injective name_unknown n q))
 
-  means_need : (Among columns x → ⊥) → need_fault columns before x ≡ some name_unknown
+  means_need : (Among columns x → ⊥) → need_fault columns before x ≡ Some name_unknown
   unfolding need_fault
   means_need a = rw (not_holds (stands_in columns x) (λ e. a (stands_among columns x e)))
 
-  forbid_means : (n : ℕ) → forbid_fault columns before x ≡ some n
+  forbid_means : (n : ℕ) → forbid_fault columns before x ≡ Some n
       → ((Among columns x → ⊥) × (n ≡ name_unknown)) ⊎ (Among columns x × Among before x × (n ≡ name_twice))
-  unfolding forbid_fault need_fault or_else
+  unfolding forbid_fault need_fault
   forbid_means n e = go (stands_in columns x) refl e
     where
-      go : (t : Bool) → stands_in columns x ≡ t → or_else (cond t none (some name_unknown)) (column_fault before x) ≡ some n
+      go : (t : Bool) → stands_in columns x ≡ t → option_or (cond t None (Some name_unknown)) (column_fault before x) ≡ Some n
           → ((Among columns x → ⊥) × (n ≡ name_unknown)) ⊎ (Among columns x × Among before x × (n ≡ name_twice))
       go true h q = let t = column_means before x n q in inr (stands_among columns x h, t.0, t.1)
       go false h q = inl (not_among columns x h, sym (some-injective name_unknown n q))
 
-  means_forbid_unknown : (Among columns x → ⊥) → forbid_fault columns before x ≡ some name_unknown
-  unfolding forbid_fault or_else
+  means_forbid_unknown : (Among columns x → ⊥) → forbid_fault columns before x ≡ Some name_unknown
+  unfolding forbid_fault
   means_forbid_unknown a = rw (means_need a)
 
-  means_forbid_twice : Among columns x → Among before x → forbid_fault columns before x ≡ some name_twice
-  unfolding forbid_fault need_fault or_else
+  means_forbid_twice : Among columns x → Among before x → forbid_fault columns before x ≡ Some name_twice
+  unfolding forbid_fault need_fault
   means_forbid_twice a b = rw (among_stands columns x a) (means_column before x b)
 
 -- ---- the text
@@ -249,7 +248,7 @@ module _ (sheet : Sheet) where
       inr (inr (line_fault m (at_first _ t.0 t.1 x name_unknown t.2 (means_need sheet.columns t.0 x a))))
 
   -- where no name is found at fault none is
-  pub names_fault_none : (f : Refusal) → names_fault sheet ≡ none → IsFault sheet f → ⊥
+  pub names_fault_none : (f : Refusal) → names_fault sheet ≡ None → IsFault sheet f → ⊥
   unfolding names_fault
   names_fault_none f e h = go (fault_found f h)
     where
@@ -259,7 +258,7 @@ module _ (sheet : Sheet) where
       go (inr (inr i)) = line_none _ _ _ (else_none _ _ (else_none _ _ e).1).1 f i
 
   -- in a text of the form what is found is a name at fault, and every other name at fault has a greater place
-  pub names_fault_smallest : {s : List ℕ} (f : Refusal) → OfForm s sheet → names_fault sheet ≡ some f
+  pub names_fault_smallest : {s : List ℕ} (f : Refusal) → OfForm s sheet → names_fault sheet ≡ Some f
       → IsFault sheet f × ((g : Refusal) → IsFault sheet g → (f ≡ g) ⊎ (f.place < g.place))
   unfolding names_fault
   names_fault_smallest f form e = found f e

@@ -2,7 +2,7 @@
 use mathlib.Core.Path.{◌≡◌, refl, sym, ap, ◌∙◌}
 use mathlib.Core.Bool.{Bool, true, false, ◌||◌, true≢false}
 use mathlib.Core.List.{List, [], ◌∷◌}
-use mathlib.Core.Option.{Option, none, some, bind, some-injective, none-ne-some}
+use Rattle.rules.proofs.Options.{Option, None, Some, bind, some-injective, none-ne-some}
 use Prim.Native.Nat.{ℕ, suc, ◌≤◌, ◌<◌}
 use native.Mathlib.Omega.{arith}
 use lib.Dec.{eqb, ltb}
@@ -16,7 +16,7 @@ use Rattle.rules.specs.Numbers.{Numbers, unfit, job_of, absent, columns_unfit, s
 use Rattle.rules.specs.Numbers.{need_unfit, markless, joins_too_few, leaves_other, column_marks_too_many}
 use Rattle.rules.proofs.Lists.{or_none, or_neither}
 
-pub unfit_none : (q : Numbers) → unfit q ≡ true → job_of q ≡ none
+pub unfit_none : (q : Numbers) → unfit q ≡ true → job_of q ≡ None
 unfolding job_of
 unfit_none q e = rw e
 
@@ -65,18 +65,18 @@ need_clauses row e =
 
 -- ---- the job of fit numbers
 
-present : {A : Type 0} (o : Option A) → absent o ≡ false → (a : A) × (o ≡ some a)
+present : {A : Type 0} (o : Option A) → absent o ≡ false → (a : A) × (o ≡ Some a)
 unfolding absent
-present none e = absurd (true≢false e)
-present (some a) e = (a, refl)
+present None e = absurd (true≢false e)
+present (Some a) e = (a, refl)
 
-pub fit_need : (row : List ℕ) → need_unfit row ≡ false → (v : Need) × (need_of row ≡ some v)
+pub fit_need : (row : List ℕ) → need_unfit row ≡ false → (v : Need) × (need_of row ≡ Some v)
 unfolding leaves_other
 fit_need row e = present (need_of row) (need_clauses row e).leaves
 
 -- every row stands for a need
 pub record Needed (needs : List (List ℕ)) (vs : List Need) : Type 0 where
-  pub are : needs_of needs ≡ some vs
+  pub are : needs_of needs ≡ Some vs
   pub many : length vs ≡ length needs
 
 rows_needs : (needs : List (List ℕ)) → any_of need_unfit needs ≡ false → (vs : List Need) × Needed needs vs
@@ -90,10 +90,10 @@ rows_needs (row ∷ needs) e =
 
 -- what a job that numbers stand for is made of, and its bounds
 pub record JobOf (q : Numbers) (job : Job) : Type 0 where
-  pub same : job_of q ≡ some job
+  pub same : job_of q ≡ Some job
   pub columns : job.columns ≡ q.columns
   pub forbidden : job.forbidden ≡ q.forbidden
-  pub needs : needs_of (rows q.marks) ≡ some job.needs
+  pub needs : needs_of (rows q.marks) ≡ Some job.needs
   pub as_many_needs : length job.needs ≡ length (rows q.marks)
   pub some_columns : 0 < job.columns
   pub few_columns : job.columns ≤ 16
@@ -105,7 +105,7 @@ fit_job q e =
     let fit = fit_clauses q e in
     let vs = rows_needs (rows q.marks) fit.needs in
     let n = or_neither (eqb q.columns 0) (ltb 16 q.columns) fit.columns in
-    let some : q.columns ≡ 0 → ⊥ = eqb-false q.columns 0 n.0 in
+    let Some : q.columns ≡ 0 → ⊥ = eqb-false q.columns 0 n.0 in
     let few : q.columns ≤ 16 = ltb-false 16 q.columns n.1 in
     let short : length (rows q.marks) ≤ 8 = ltb-false 8 (length (rows q.marks)) fit.few_needs in (
       record { columns = q.columns; forbidden = q.forbidden; needs = vs.0 },
@@ -121,14 +121,14 @@ fit_job q e =
       },
     )
 
-pub fit_of_job : (q : Numbers) (job : Job) → job_of q ≡ some job → unfit q ≡ false
+pub fit_of_job : (q : Numbers) (job : Job) → job_of q ≡ Some job → unfit q ≡ false
 fit_of_job q job e = go (unfit q) refl
   where
     go : (b : Bool) → unfit q ≡ b → unfit q ≡ false
     go true u = absurd (none-ne-some job (sym (unfit_none q u) ∙ e))
     go false u = u
 
-pub job_fit : (q : Numbers) (job : Job) → job_of q ≡ some job → JobOf q job
+pub job_fit : (q : Numbers) (job : Job) → job_of q ≡ Some job → JobOf q job
 job_fit q job e =
     let f = fit_job q (fit_of_job q job e) in
     rw (some-injective f.0 job (sym f.1.same ∙ e)) at f.1

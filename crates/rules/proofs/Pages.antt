@@ -2,7 +2,7 @@
 use mathlib.Core.Path.{◌≡◌, refl, sym, ap, subst⁻¹, ◌∙◌}
 use mathlib.Core.Bool.{Bool, true, ◌&&◌}
 use mathlib.Core.List.{List, [], ◌∷◌, ◌++◌, append_assoc, append-nil}
-use mathlib.Core.Option.{Option, none, some}
+use Rattle.rules.specs.Options.{Option, None, Some}
 use Prim.Native.Nat.{ℕ, zero, suc, ◌+◌, ◌*◌, ◌≤◌, ◌<◌}
 use native.Mathlib.Omega.{arith}
 use lib.Dec.{ltb, leb}
@@ -97,25 +97,25 @@ pub record HasJob (s : List ℕ) (w : Reading) : Type 0 where
   pub job : Job
   pub short : length s ≤ most_bytes
   pub form : OfForm s sheet
-  pub right : sheet_fault sheet ≡ none
+  pub right : sheet_fault sheet ≡ None
   pub said : w ≡ taken (numbers_of sheet) (names_of sheet)
-  pub known : job_of (numbers_of sheet) ≡ some job
+  pub known : job_of (numbers_of sheet) ≡ Some job
 
 -- a refusal of the text, which has one of the numbers 1 to 6; 9 where its job has no correct split; or the planner's split of its job. So 7 and 8
 -- never come with a text
 pub data OutcomeWay (s : List ℕ) (w : Reading) : Outcome → Type 0 where
   is_refused_lem : (number place : ℕ) → w ≡ unread number place → Reads s (unread number place) → OutcomeWay s w (refused number place)
-  none_correct : (t : HasJob s w) → plan t.job ≡ none → OutcomeWay s w (refused no_correct_split 0)
-  is_released : (t : HasJob s w) (split : List ℕ) → plan t.job ≡ some split → OutcomeWay s w (released (names_of t.sheet) split)
+  none_correct : (t : HasJob s w) → plan t.job ≡ None → OutcomeWay s w (refused no_correct_split 0)
+  is_released : (t : HasJob s w) (split : List ℕ) → plan t.job ≡ Some split → OutcomeWay s w (released (names_of t.sheet) split)
 
 module _ {s : List ℕ} {w : Reading} (t : HasJob s w) where
-  outcome_none : plan t.job ≡ none → outcome_of w ≡ refused no_correct_split 0
+  outcome_none : plan t.job ≡ None → outcome_of w ≡ refused no_correct_split 0
   unfolding outcome_of planned_with
   outcome_none e =
       ap outcome_of t.said
       ∙ ap (planned_with (names_of t.sheet)) (planning_none (numbers_of t.sheet) (replicate plan_room 0) t.job t.known (omega arith) e)
 
-  outcome_planned : (split : List ℕ) → plan t.job ≡ some split → outcome_of w ≡ released (names_of t.sheet) split
+  outcome_planned : (split : List ℕ) → plan t.job ≡ Some split → outcome_of w ≡ released (names_of t.sheet) split
   unfolding outcome_of planned_with
   outcome_planned split e =
       ap outcome_of t.said
@@ -126,8 +126,8 @@ module _ {s : List ℕ} {w : Reading} (t : HasJob s w) where
   job_ways = go (plan t.job) refl
     where
       go : (o : Option (List ℕ)) → plan t.job ≡ o → OutcomeWay s w (outcome_of w)
-      go none e = subst⁻¹ (OutcomeWay s w) (outcome_none e) (none_correct t e)
-      go (some split) e = subst⁻¹ (OutcomeWay s w) (outcome_planned split e) (is_released t split e)
+      go None e = subst⁻¹ (OutcomeWay s w) (outcome_none e) (none_correct t e)
+      go (Some split) e = subst⁻¹ (OutcomeWay s w) (outcome_planned split e) (is_released t split e)
 
 -- what a text comes to
 pub outcome_ways : {s : List ℕ} {w : Reading} → Reads s w → OutcomeWay s w (outcome_of w)
@@ -137,7 +137,7 @@ outcome_ways (not_of_form {p} l a) = is_refused_lem text_not_of_form p refl (not
 outcome_ways {s} (of_form sheet l f) = go (sheet_fault sheet) refl
   where
     go : (o : Option Refusal) → sheet_fault sheet ≡ o → OutcomeWay s (reading_of sheet) (outcome_of (reading_of sheet))
-    go none e =
+    go None e =
         job_ways (record {
           sheet = sheet;
           job = _;
@@ -147,7 +147,7 @@ outcome_ways {s} (of_form sheet l f) = go (sheet_fault sheet) refl
           said = reading_taken sheet e;
           known = sheet_job s sheet f e;
         })
-    go (some g) e =
+    go (Some g) e =
         let read : Reads s (unread g.number g.place) = rw (← reading_refused sheet g e) (of_form sheet l f) in
         rw (reading_refused sheet g e) (is_refused_lem g.number g.place refl read)
 
@@ -202,10 +202,10 @@ module _ (names : List (List ℕ)) (short : (i : ℕ) → length (get_or names i
     lines_fit (s ∷ split) e =
         let both = and_parts (proper job s) (every (proper job) split) e in
         let within = proper_means job s both.0 in
-        let some = size_more s within.0 (below_most job.columns s few within.1) in
+        let Some = size_more s within.0 (below_most job.columns s few within.1) in
         let value = joined_names (names_at names (members s)) in
         let a = keyed_line_length "extract=" value in
-        let b = joined_names_fits (members s) some in
+        let b = joined_names_fits (members s) Some in
         let c = length-append (keyed_line "extract=" value) (extract_lines names split) in
         let d = lines_fit split both.1 in
         omega arith

@@ -2,7 +2,7 @@
 use mathlib.Core.Path.{◌≡◌, refl, sym, ap, ◌∙◌}
 use mathlib.Core.Bool.{Bool, true, false, cond}
 use mathlib.Core.List.{List, [], ◌∷◌, Memᴰ, tail-eq_of_cons-eq}
-use mathlib.Core.Option.{Option, none, some}
+use Rattle.rules.specs.Options.{Option, None, Some}
 use Prim.Native.Nat.{ℕ, ◌≤◌}
 use native.Mathlib.Omega.{arith}
 use lib.ListN.{length}
@@ -23,17 +23,17 @@ module _ (job : Job) where
     first : (other : List ℕ) → Memᴰ other others → not_after (rank job split) (rank job other) ≡ true
 
   abbrev IsBest : List (List ℕ) → Option (List ℕ) → Type 0
-  IsBest others none = (other : List ℕ) → Memᴰ other others → ⊥
-  IsBest others (some b) = Lowest others b
+  IsBest others None = (other : List ℕ) → Memᴰ other others → ⊥
+  IsBest others (Some b) = Lowest others b
 
   better_lowest : (split : List ℕ) (others : List (List ℕ)) (o : Option (List ℕ)) → IsBest others o → Lowest (split ∷ others) (better job split o)
   unfolding better
-  better_lowest split others none empty = record { within = mathlib.Core.List.Memᴰ.head refl; first = before }
+  better_lowest split others None empty = record { within = mathlib.Core.List.Memᴰ.head refl; first = before }
     where
       before : (other : List ℕ) → Memᴰ other (split ∷ others) → not_after (rank job split) (rank job other) ≡ true
       before other (mathlib.Core.List.Memᴰ.head e) = rw e (not_after_refl (rank job split))
       before other (mathlib.Core.List.Memᴰ.tail m) = absurd (empty other m)
-  better_lowest split others (some b) l = go (not_after (rank job split) (rank job b)) refl
+  better_lowest split others (Some b) l = go (not_after (rank job split) (rank job b)) refl
     where
       go : (c : Bool) → not_after (rank job split) (rank job b) ≡ c → Lowest (split ∷ others) (cond c split b)
       go true e = record { within = mathlib.Core.List.Memᴰ.head refl; first = before }
@@ -58,7 +58,7 @@ module _ (job : Job) where
   unfolding rank
   rank_rising split e = rw (length_rising split, cost_rising job split, e)
 
-  pub plan_planned : job.columns ≤ 16 → (split : List ℕ) → plan job ≡ some split → Planned job split
+  pub plan_planned : job.columns ≤ 16 → (split : List ℕ) → plan job ≡ Some split → Planned job split
   unfolding plan
   plan_planned h split e =
       let l : Lowest (splits job) split = rw e at (best_is (splits job)) in
@@ -70,9 +70,9 @@ module _ (job : Job) where
           let m : Memᴰ (rising other) (splits job) = correct_split job other h k in
           rw (rank_rising other (split_correct job (rising other) m).1) at (l.first (rising other) m)
 
-  pub plan_none : job.columns ≤ 16 → plan job ≡ none → (split : List ℕ) → correct job split ≡ true → ⊥
+  pub plan_none : job.columns ≤ 16 → plan job ≡ None → (split : List ℕ) → correct job split ≡ true → ⊥
   unfolding plan
-  plan_none h e split c = let f : IsBest (splits job) none = rw e at (best_is (splits job)) in f (rising split) (correct_split job split h c)
+  plan_none h e split c = let f : IsBest (splits job) None = rw e at (best_is (splits job)) in f (rising split) (correct_split job split h c)
 
   pub planned_unique : (split other : List ℕ) → Planned job split → Planned job other → split ≡ other
   unfolding rank
@@ -81,24 +81,24 @@ module _ (job : Job) where
       not_after_antisym (rank job split) (rank job other) (p.first other q.right) (q.first split p.right) in
       sym p.written ∙ tail-eq_of_cons-eq (tail-eq_of_cons-eq e) ∙ q.written
 
-  pub plan_exists : job.columns ≤ 16 → (split : List ℕ) → correct job split ≡ true → (best : List ℕ) × (plan job ≡ some best)
+  pub plan_exists : job.columns ≤ 16 → (split : List ℕ) → correct job split ≡ true → (best : List ℕ) × (plan job ≡ Some best)
   plan_exists h split c = go (plan job) refl
     where
-      go : (o : Option (List ℕ)) → plan job ≡ o → (best : List ℕ) × (plan job ≡ some best)
-      go none e = absurd (plan_none h e split c)
-      go (some best) e = (best, e)
+      go : (o : Option (List ℕ)) → plan job ≡ o → (best : List ℕ) × (plan job ≡ Some best)
+      go None e = absurd (plan_none h e split c)
+      go (Some best) e = (best, e)
 
-  pub planned_plan : job.columns ≤ 16 → (split : List ℕ) → Planned job split → plan job ≡ some split
+  pub planned_plan : job.columns ≤ 16 → (split : List ℕ) → Planned job split → plan job ≡ Some split
   planned_plan h split p =
       let b = plan_exists h split p.right in
-      b.1 ∙ ap {B = Option (List ℕ)} some (planned_unique b.0 split (plan_planned h b.0 b.1) p)
+      b.1 ∙ ap {B = Option (List ℕ)} Some (planned_unique b.0 split (plan_planned h b.0 b.1) p)
 
-  pub none_plan : job.columns ≤ 16 → ((split : List ℕ) → correct job split ≡ false) → plan job ≡ none
+  pub none_plan : job.columns ≤ 16 → ((split : List ℕ) → correct job split ≡ false) → plan job ≡ None
   none_plan h f = go (plan job) refl
     where
-      go : (o : Option (List ℕ)) → plan job ≡ o → plan job ≡ none
-      go none e = e
-      go (some best) e = holds_fails (correct job best) (plan_planned h best e).right (f best)
+      go : (o : Option (List ℕ)) → plan job ≡ o → plan job ≡ None
+      go None e = e
+      go (Some best) e = holds_fails (correct job best) (plan_planned h best e).right (f best)
 
   -- ---- the fewest extracts
 

@@ -3,7 +3,7 @@ use mathlib.Core.Path.{◌≡◌, refl, sym, ap, subst, ◌∙◌}
 use mathlib.Core.Logic.{◌↔◌}
 use mathlib.Core.Bool.{Bool, true, false, true≢false}
 use mathlib.Core.List.{List}
-use mathlib.Core.Option.{Option, none, some, Option-elim}
+use Rattle.rules.specs.Options.{Option, None, Some, Option-elim}
 use Prim.Native.Nat.{ℕ, ◌<◌, ◌≤◌}
 use native.Mathlib.Omega.{arith}
 use lib.ListN.{length}
@@ -31,12 +31,12 @@ one_reading (of_form sheet l f) (of_form sheet' m g) = ap reading_of (sheet_uniq
 -- ---- which texts have which answer
 
 -- a text of the form without a fault gives its numbers and names
-pub reading_taken : (sheet : Sheet) → sheet_fault sheet ≡ none → reading_of sheet ≡ taken (numbers_of sheet) (names_of sheet)
+pub reading_taken : (sheet : Sheet) → sheet_fault sheet ≡ None → reading_of sheet ≡ taken (numbers_of sheet) (names_of sheet)
 unfolding reading_of Option-elim
 reading_taken sheet e = rw e
 
 -- a text of the form with a fault gives that
-pub reading_refused : (sheet : Sheet) (f : Refusal) → sheet_fault sheet ≡ some f → reading_of sheet ≡ refused f.number f.place
+pub reading_refused : (sheet : Sheet) (f : Refusal) → sheet_fault sheet ≡ Some f → reading_of sheet ≡ refused f.number f.place
 unfolding reading_of Option-elim
 reading_refused sheet f e = rw e
 
@@ -65,10 +65,10 @@ taken_exactly s q names = (λ h. from h refl, into)
   where
     of : (sheet : Sheet) → length s ≤ most_bytes → OfForm s sheet → reading_of sheet ≡ taken q names → (o : Option Refusal) → sheet_fault sheet ≡ o
         → Accepted s q names
-    of sheet l f e none h =
+    of sheet l f e None h =
         let k = reading_taken sheet h in
         record { sheet = sheet; short = l; form = f; right = (right_exactly sheet f).0 h; numbers_said = cc; names_said = cc }
-    of sheet l f e (some g) h = absurd (refused_or_taken (sym (reading_refused sheet g h) ∙ e))
+    of sheet l f e (Some g) h = absurd (refused_or_taken (sym (reading_refused sheet g h) ∙ e))
 
     from : {r : Reading} → Reads s r → r ≡ taken q names → Accepted s q names
     from (too_long l) e = absurd (refused_or_taken e)
@@ -77,8 +77,8 @@ taken_exactly s q names = (λ h. from h refl, into)
 
     into : Accepted s q names → Reads s (taken q names)
     into a =
-        let none = (right_exactly a.sheet a.form).1 a.right in
-        rw (a.numbers_said, a.names_said, ← (reading_taken a.sheet none)) (of_form a.sheet a.short a.form)
+        let None = (right_exactly a.sheet a.form).1 a.right in
+        rw (a.numbers_said, a.names_said, ← (reading_taken a.sheet None)) (of_form a.sheet a.short a.form)
 
 -- what a refusal with this number and place can come from
 data Cause (s : List ℕ) (number place : ℕ) : Type 0 where
@@ -97,8 +97,8 @@ cause {s} {number} {place} h = from h refl
 
     of : (sheet : Sheet) → length s ≤ most_bytes → OfForm s sheet → reading_of sheet ≡ refused number place → (o : Option Refusal)
         → sheet_fault sheet ≡ o → Cause s number place
-    of sheet l f e none h = absurd (refused_or_taken (sym e ∙ reading_taken sheet h))
-    of sheet l f e (some g) h =
+    of sheet l f e None h = absurd (refused_or_taken (sym e ∙ reading_taken sheet h))
+    of sheet l f e (Some g) h =
         let k : refused number place ≡ refused g.number g.place = sym e ∙ reading_refused sheet g h in
         fault (record { sheet = sheet; short = l; form = f; fault = rw (number_is k, place_is k) ((fault_exactly sheet f g).0 h) })
 
@@ -140,8 +140,8 @@ faulty_exactly s number p m = (λ h. from (cause h), into)
 
     into : Faulty s number p → Reads s (refused number p)
     into a =
-        let some = (fault_exactly a.sheet a.form (refusal number p)).1 a.fault in
-        rw (← (reading_refused a.sheet (refusal number p) some)) (of_form a.sheet a.short a.form)
+        let Some = (fault_exactly a.sheet a.form (refusal number p)).1 a.fault in
+        rw (← (reading_refused a.sheet (refusal number p) Some)) (of_form a.sheet a.short a.form)
 
 -- so such a refusal comes from a fault of what the text says
 pub refused_fault : {s : List ℕ} {number p : ℕ} → 2 < number → Reads s (refused number p) → (sheet : Sheet) → OfForm s sheet

@@ -1,7 +1,7 @@
 -- Two jobs over equal columns that the same splits are correct for have the same planner's split. Assumes nothing.
 use mathlib.Core.Path.{◌≡◌, refl, sym, ap₂, ◌∙◌}
 use mathlib.Core.List.{List, [], ◌∷◌}
-use mathlib.Core.Option.{Option, none, some}
+use Rattle.rules.specs.Options.{Option, None, Some}
 use Prim.Native.Nat.{ℕ, ◌+◌, ◌≤◌}
 use Rattle.rules.specs.Jobs.{Job}
 use Rattle.rules.specs.Splits.{correct}
@@ -29,9 +29,9 @@ module _ (first second : Job) where
       few = rw columns h
 
       go : (o : Option (List ℕ)) → plan first ≡ o → plan first ≡ plan second
-      go none e =
+      go None e =
           e ∙ sym (none_plan second few (λ split. sym (same split) ∙ not_holds (correct first split) (plan_none first h e split)))
-      go (some split) e =
+      go (Some split) e =
           let p = plan_planned first h split e in
           e
           ∙ sym (planned_plan second few split (record {

@@ -3,7 +3,7 @@
 use mathlib.Core.Path.{◌≡◌, refl, sym}
 use mathlib.Core.Bool.{Bool, true, false}
 use mathlib.Core.List.{List, [], ◌∷◌}
-use mathlib.Core.Option.{Option, none, some, or_else, none-ne-some}
+use Rattle.rules.proofs.Options.{Option, None, Some, option_or, none-ne-some}
 use Prim.Native.Nat.{ℕ, zero, suc, ◌<◌}
 use native.Mathlib.Omega.{arith}
 use lib.ListN.{length, get_or}
@@ -17,7 +17,7 @@ module _ {A : Type 0} (p : A → Bool) (d : A) where
   pub none_later : (x : A) (xs : List A) (i : ℕ) → NoneBefore (x ∷ xs) (suc i) → NoneBefore xs i
   none_later x xs i before k h = before (suc k) (omega arith)
 
-  pub first_found : (xs : List A) (i : ℕ) → i < length xs → NoneBefore xs i → p (get_or xs i d) ≡ true → first_where p xs ≡ some i
+  pub first_found : (xs : List A) (i : ℕ) → i < length xs → NoneBefore xs i → p (get_or xs i d) ≡ true → first_where p xs ≡ Some i
   unfolding first_where
   first_found [] i h before e = absurd (omega arith)
   first_found (x ∷ xs) zero h before e = rw e
@@ -25,7 +25,7 @@ module _ {A : Type 0} (p : A → Bool) (d : A) where
       let here : p x ≡ false = before 0 (omega arith) in
       rw (here, first_found xs i (omega arith) (none_later x xs i before) e)
 
-  pub nothing_found : (xs : List A) → NoneBefore xs (length xs) → first_where p xs ≡ none
+  pub nothing_found : (xs : List A) → NoneBefore xs (length xs) → first_where p xs ≡ None
   unfolding first_where
   nothing_found [] before = refl
   nothing_found (x ∷ xs) before =
@@ -38,7 +38,6 @@ module _ {A : Type 0} (p : A → Bool) (d : A) where
   first_same q same (x ∷ xs) = rw (same x, first_same q same xs)
 
 -- where one search and then another finds nothing neither does
-pub else_none : {A : Type 0} (a b : Option A) → or_else a b ≡ none → (a ≡ none) × (b ≡ none)
-unfolding or_else
-else_none none b e = (refl, e)
-else_none (some a) b e = absurd (none-ne-some a (sym e))
+pub else_none : {A : Type 0} (a b : Option A) → option_or a b ≡ None → (a ≡ None) × (b ≡ None)
+else_none None b e = (refl, e)
+else_none (Some a) b e = absurd (none-ne-some a (sym e))

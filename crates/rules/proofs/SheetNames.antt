@@ -2,7 +2,7 @@
 use mathlib.Core.Path.{◌≡◌, refl, sym, ap, ◌∙◌}
 use mathlib.Core.Bool.{Bool, true, false, cond, ◌&&◌, false≢true}
 use mathlib.Core.List.{List, [], map}
-use mathlib.Core.Option.{none, some, none-ne-some}
+use Rattle.rules.proofs.Options.{None, Some, none-ne-some}
 use Prim.Native.Nat.{ℕ, zero, suc, ◌+◌, ◌-◌, ◌<◌}
 use native.Mathlib.Omega.{arith}
 use lib.Dec.{ltb, leb}
@@ -23,16 +23,16 @@ use Rattle.rules.proofs.Sheets.{nowhere, faultless, no_fault}
 
 -- ---- no two columns have the same name
 
-not_twice : (before : List Spot) (x : Spot) → column_fault before x ≡ none → stands_in before x ≡ false
+not_twice : (before : List Spot) (x : Spot) → column_fault before x ≡ None → stands_in before x ≡ false
 unfolding column_fault
 not_twice before x e = go (stands_in before x) e
   where
-    go : (b : Bool) → cond b (some name_twice) none ≡ none → b ≡ false
+    go : (b : Bool) → cond b (Some name_twice) None ≡ None → b ≡ false
     go true q = absurd (none-ne-some name_twice (sym q))
     go false q = refl
 
 -- two columns of a text without a fault have different names
-pub columns_differ : (sheet : Sheet) → sheet_fault sheet ≡ none → (i j : ℕ) (d : Spot) → i < j → j < length sheet.columns
+pub columns_differ : (sheet : Sheet) → sheet_fault sheet ≡ None → (i j : ℕ) (d : Spot) → i < j → j < length sheet.columns
     → same_name (get_or sheet.columns i d).name (get_or sheet.columns j d).name ≡ false
 unfolding stands_in
 columns_differ sheet e i j d l h =
@@ -43,7 +43,7 @@ columns_differ sheet e i j d l h =
     ∙ not_any_in (λ c. same_name c.name (get_or names j d).name) new (get_d_in (take j names) i d (omega arith))
 
 -- two names of its job are different
-pub names_differ : (sheet : Sheet) → sheet_fault sheet ≡ none → (i j : ℕ) → i < j → j < length sheet.columns
+pub names_differ : (sheet : Sheet) → sheet_fault sheet ≡ None → (i j : ℕ) → i < j → j < length sheet.columns
     → same_name (get_or (names_of sheet) i []) (get_or (names_of sheet) j []) ≡ false
 unfolding names_of
 names_differ sheet e i j l h =

@@ -2,8 +2,7 @@
 use mathlib.Core.Path.{◌≡◌, refl, sym, ap}
 use mathlib.Core.Bool.{Bool, true, false, not, cond}
 use mathlib.Core.List.{List, [], ◌∷◌, ◌++◌, map, append-nil, append_assoc}
-use mathlib.Core.Option
-use mathlib.Core.Option.{Option, none, some, map-eq-none_iff, none-ne-some}
+use Rattle.rules.proofs.Options.{Option, None, Some, map-eq-none_iff, none-ne-some, option_map}
 use Prim.Native.Nat.{ℕ, zero, suc, ◌^◌, ◌≤◌, ◌<◌}
 use native.Mathlib.Omega.{arith}
 use lib.Dec.{ltb}
@@ -37,16 +36,16 @@ nowhere = record { place = 0; name = [] }
 
 -- the clauses of refusals 3 to 6, none of which holds of a sheet without a fault
 pub record Faultless (sheet : Sheet) : Type 0 where
-  pub few_columns : name_after most_columns sheet.columns ≡ none
-  pub few_forbids : line_after most_forbidden sheet.forbids ≡ none
-  pub few_needs : needs_over most_needs sheet.needs ≡ none
-  pub columns : first_name_fault column_fault [] sheet.columns ≡ none
-  pub forbids : lines_fault (forbid_fault sheet.columns) (map (λ l. l.value) sheet.forbids) ≡ none
-  pub needs : lines_fault (need_fault sheet.columns) (map (λ l. names_in l.value) sheet.needs) ≡ none
-  pub ended : end_fault sheet ≡ none
+  pub few_columns : name_after most_columns sheet.columns ≡ None
+  pub few_forbids : line_after most_forbidden sheet.forbids ≡ None
+  pub few_needs : needs_over most_needs sheet.needs ≡ None
+  pub columns : first_name_fault column_fault [] sheet.columns ≡ None
+  pub forbids : lines_fault (forbid_fault sheet.columns) (map (λ l. l.value) sheet.forbids) ≡ None
+  pub needs : lines_fault (need_fault sheet.columns) (map (λ l. names_in l.value) sheet.needs) ≡ None
+  pub ended : end_fault sheet ≡ None
 
 -- a sheet without a fault breaks no clause
-pub faultless : (sheet : Sheet) → sheet_fault sheet ≡ none → Faultless sheet
+pub faultless : (sheet : Sheet) → sheet_fault sheet ≡ None → Faultless sheet
 unfolding sheet_fault first_over names_fault
 faultless sheet e =
     let a = else_none _ _ e in
@@ -60,14 +59,14 @@ faultless sheet e =
 -- ---- counts
 
 -- with nothing after the first k there are at most k
-pub none_after : {A : Type 0} (place : A → ℕ) (k : ℕ) (xs : List A) → Option.map place (first_of (drop k xs)) ≡ none → length xs ≤ k
+pub none_after : {A : Type 0} (place : A → ℕ) (k : ℕ) (xs : List A) → option_map place (first_of (drop k xs)) ≡ None → length xs ≤ k
 unfolding first_of
 none_after place zero [] e = omega arith
 none_after place zero (x ∷ xs) e = absurd (none-ne-some (place x) (sym e))
 none_after place (suc k) [] e = omega arith
 none_after place (suc k) (x ∷ xs) e = omega (arith, none_after place k xs e)
 
-needs_few : (k : ℕ) (lines : List (Line Formula)) → needs_over k lines ≡ none → (length lines ≤ k) × (every few_names lines ≡ true)
+needs_few : (k : ℕ) (lines : List (Line Formula)) → needs_over k lines ≡ None → (length lines ≤ k) × (every few_names lines ≡ true)
 unfolding needs_over name_after every
 needs_few zero [] e = (omega arith, refl)
 needs_few (suc k) [] e = (omega arith, refl)
@@ -92,7 +91,7 @@ pub record Counted (sheet : Sheet) : Type 0 where
   pub few_in_needs : every few_names sheet.needs ≡ true
 
 -- a text without a fault has 1 to 16 columns, at most 32 forbid lines, at most 8 need lines, and at most 32 names in each of these
-pub counts : (s : List ℕ) (sheet : Sheet) → OfForm s sheet → sheet_fault sheet ≡ none → Counted sheet
+pub counts : (s : List ℕ) (sheet : Sheet) → OfForm s sheet → sheet_fault sheet ≡ None → Counted sheet
 unfolding name_after line_after
 counts s sheet form e =
     let clauses = faultless sheet e in
@@ -108,8 +107,8 @@ counts s sheet form e =
 -- ---- names
 
 -- where there is no fault, each name is tested against all names before it
-pub no_fault : (fault : List Spot → Spot → Option ℕ) (before names : List Spot) → first_name_fault fault before names ≡ none
-    → (j : ℕ) (d : Spot) → j < length names → fault (before ++ take j names) (get_or names j d) ≡ none
+pub no_fault : (fault : List Spot → Spot → Option ℕ) (before names : List Spot) → first_name_fault fault before names ≡ None
+    → (j : ℕ) (d : Spot) → j < length names → fault (before ++ take j names) (get_or names j d) ≡ None
 unfolding first_name_fault
 no_fault fault before [] e j d h = absurd (omega arith)
 no_fault fault before (x ∷ names) e zero d h = rw (append-nil before) ((map-eq-none_iff _ _).0 (else_none _ _ e).0)
@@ -120,11 +119,11 @@ no_fault fault before (x ∷ names) e (suc j) d h =
 module _
     (fault : List Spot → Spot → Option ℕ)
     (p : Spot → Bool)
-    (right : (before : List Spot) (x : Spot) → fault before x ≡ none → p x ≡ true) where
-  names_right : (names : List Spot) → first_name_fault fault [] names ≡ none → every p names ≡ true
+    (right : (before : List Spot) (x : Spot) → fault before x ≡ None → p x ≡ true) where
+  names_right : (names : List Spot) → first_name_fault fault [] names ≡ None → every p names ≡ true
   names_right names e = every_places p names nowhere (λ i h. right (take i names) (get_or names i nowhere) (no_fault fault [] names e i nowhere h))
 
-  lines_right : {A : Type 0} (names : A → List Spot) (lines : List A) → lines_fault fault (map names lines) ≡ none
+  lines_right : {A : Type 0} (names : A → List Spot) (lines : List A) → lines_fault fault (map names lines) ≡ None
       → every (λ l. every p (names l)) lines ≡ true
   unfolding lines_fault every
   lines_right names [] e = refl
@@ -132,15 +131,15 @@ module _
       let both = else_none _ _ e in
       and_both _ _ (names_right (names l) both.0) (lines_right names lines both.1)
 
-need_known : (columns before : List Spot) (x : Spot) → need_fault columns before x ≡ none → stands_in columns x ≡ true
+need_known : (columns before : List Spot) (x : Spot) → need_fault columns before x ≡ None → stands_in columns x ≡ true
 unfolding need_fault
 need_known columns before x e = go (stands_in columns x) e
   where
-    go : (b : Bool) → cond b none (some name_unknown) ≡ none → b ≡ true
+    go : (b : Bool) → cond b None (Some name_unknown) ≡ None → b ≡ true
     go true q = refl
     go false q = absurd (none-ne-some name_unknown (sym q))
 
-forbid_known : (columns before : List Spot) (x : Spot) → forbid_fault columns before x ≡ none → stands_in columns x ≡ true
+forbid_known : (columns before : List Spot) (x : Spot) → forbid_fault columns before x ≡ None → stands_in columns x ≡ true
 unfolding forbid_fault
 forbid_known columns before x e = need_known columns before x (else_none _ _ e).0
 
@@ -150,7 +149,7 @@ pub record Known (sheet : Sheet) : Type 0 where
   pub needs : every (λ l. every (stands_in sheet.columns) (names_in l.value)) sheet.needs ≡ true
 
 -- a text without a fault names no column that isn't there
-pub known : (sheet : Sheet) → sheet_fault sheet ≡ none → Known sheet
+pub known : (sheet : Sheet) → sheet_fault sheet ≡ None → Known sheet
 known sheet e =
     let columns = sheet.columns in
     let clauses = faultless sheet e in
@@ -171,14 +170,14 @@ columns_below_lem columns names =
     (λ x e. lt-ltb (column_in columns x) (length columns) (column_below columns x e))
 
 -- the need lines of a text without a fault name columns that exist
-pub needs_below : (sheet : Sheet) → sheet_fault sheet ≡ none → lines_below sheet.columns (length sheet.columns) sheet.needs ≡ true
+pub needs_below : (sheet : Sheet) → sheet_fault sheet ≡ None → lines_below sheet.columns (length sheet.columns) sheet.needs ≡ true
 needs_below sheet e =
     every_weaker (λ l. every (stands_in sheet.columns) (names_in l.value))
     (λ l. columns_below sheet.columns (length sheet.columns) (names_in l.value)) sheet.needs
     (λ l. columns_below_lem sheet.columns (names_in l.value)) (known sheet e).needs
 
 -- so do its forbid lines
-pub forbids_below : (sheet : Sheet) → sheet_fault sheet ≡ none
+pub forbids_below : (sheet : Sheet) → sheet_fault sheet ≡ None
     → every (λ l. columns_below sheet.columns (length sheet.columns) l.value) sheet.forbids ≡ true
 forbids_below sheet e =
     every_weaker (λ l. every (stands_in sheet.columns) l.value)
@@ -211,7 +210,7 @@ sets_fit columns (l ∷ lines) most full below =
     (sets_fit columns lines most named.1 low.1)
 
 -- the numbers read are fit
-pub sheet_fit : (s : List ℕ) (sheet : Sheet) → OfForm s sheet → sheet_fault sheet ≡ none → unfit (numbers_of sheet) ≡ false
+pub sheet_fit : (s : List ℕ) (sheet : Sheet) → OfForm s sheet → sheet_fault sheet ≡ None → unfit (numbers_of sheet) ≡ false
 unfolding numbers_of columns_unfit sets_too_many needs_too_many
 sheet_fit s sheet form e =
     let counted = counts s sheet form e in
@@ -234,8 +233,8 @@ sheet_fit s sheet form e =
     })
 
 -- and mean what the text says
-pub sheet_job : (s : List ℕ) (sheet : Sheet) → OfForm s sheet → sheet_fault sheet ≡ none
-    → job_of (numbers_of sheet) ≡ some (job_in sheet)
+pub sheet_job : (s : List ℕ) (sheet : Sheet) → OfForm s sheet → sheet_fault sheet ≡ None
+    → job_of (numbers_of sheet) ≡ Some (job_in sheet)
 unfolding job_of numbers_of
 sheet_job s sheet form e =
     let few = (counts s sheet form e).few_columns in

@@ -1,7 +1,7 @@
 -- 01's small table holds of the definitions. Assumes nothing.
 use mathlib.Core.Path.{◌≡◌, refl}
 use mathlib.Core.List.{map}
-use mathlib.Core.Option.{bind}
+use Rattle.rules.specs.Options.{bind}
 use Rattle.rules.specs.Lists.{every, any_of, keep, first_where, up_from}
 use Rattle.rules.specs.Sets.{members, contains, apart, size}
 use Rattle.rules.specs.Needs.{meets}

@@ -2,7 +2,7 @@
 use mathlib.Core.Path.{◌≡◌, refl, sym, ap, subst, ◌∙◌}
 use mathlib.Core.Logic.{◌⊎◌, inl, inr}
 use mathlib.Core.List.{List, [], ◌∷◌, Memᴰ}
-use mathlib.Core.Option.{Option, none, some, map, none-ne-some}
+use Rattle.rules.proofs.Options.{Option, None, Some, option_map, none-ne-some}
 use Prim.Native.Nat.{ℕ, zero, suc, ◌<◌, ◌≤◌}
 use native.Mathlib.Omega.{arith}
 use lib.ListN.{length, drop}
@@ -25,12 +25,12 @@ module _ {A : Type 0} (place : A → ℕ) where
   data PlaceIn (xs : List A) : ℕ → Type 0 where
     place_in : {x : A} → Memᴰ x xs → PlaceIn xs (place x)
 
-  first_place_none : (xs : List A) → NoneMissed (PlaceIn xs) (map place (first_of xs))
+  first_place_none : (xs : List A) → NoneMissed (PlaceIn xs) (option_map place (first_of xs))
   unfolding first_of
   first_place_none [] e y (place_in m) = elim m [ ]
   first_place_none (x ∷ xs) e y h = absurd (none-ne-some (place x) (sym e))
 
-  first_place_smallest : {p q : ℕ} {xs : List A} → Rise place p q xs → Smallest (λ (n : ℕ). n) (PlaceIn xs) (map place (first_of xs))
+  first_place_smallest : {p q : ℕ} {xs : List A} → Rise place p q xs → Smallest (λ (n : ℕ). n) (PlaceIn xs) (option_map place (first_of xs))
   unfolding first_of
   first_place_smallest (nothing l) = smallest_none _ _
   first_place_smallest (onward {x} {xs} l r) = smallest_some _ _ (place x) (place_in (Memᴰ.head refl)) go
@@ -124,7 +124,7 @@ over_is sheet n (need_over m) = inr (inr (line_over m))
 over_is sheet n (name_over m i) = inr (inr (in_line m i))
 
 -- where nothing is found to be too many nothing is
-pub over_none : (sheet : Sheet) (q : ℕ) → first_over sheet ≡ none → IsOver sheet q → ⊥
+pub over_none : (sheet : Sheet) (q : ℕ) → first_over sheet ≡ None → IsOver sheet q → ⊥
 unfolding first_over name_after line_after
 over_none sheet q e h = go (over_is sheet q h)
   where
@@ -134,7 +134,7 @@ over_none sheet q e h = go (over_is sheet q h)
     go (inr (inr i)) = needs_none _ _ (else_none _ _ (else_none _ _ e).1).1 q i
 
 -- in a text of the form the place found is that of something too many, and the smallest such place
-pub over_smallest : {s : List ℕ} (sheet : Sheet) (p : ℕ) → OfForm s sheet → first_over sheet ≡ some p → IsOver sheet p × ((q : ℕ) → IsOver sheet q → p ≤ q)
+pub over_smallest : {s : List ℕ} (sheet : Sheet) (p : ℕ) → OfForm s sheet → first_over sheet ≡ Some p → IsOver sheet p × ((q : ℕ) → IsOver sheet q → p ≤ q)
 unfolding first_over name_after line_after
 over_smallest sheet p form e = let t = found p e in (t.0, λ q h. least q (t.1 q h))
   where
@@ -177,15 +177,15 @@ over_smallest sheet p form e = let t = found p e in (t.0, λ q h. least q (t.1 q
     least q (inr h) = omega arith
 
 -- so the smallest such place is the one that is found
-pub over_found : {s : List ℕ} {sheet : Sheet} {p : ℕ} → OfForm s sheet → IsOver sheet p → ((q : ℕ) → IsOver sheet q → p ≤ q) → first_over sheet ≡ some p
+pub over_found : {s : List ℕ} {sheet : Sheet} {p : ℕ} → OfForm s sheet → IsOver sheet p → ((q : ℕ) → IsOver sheet q → p ≤ q) → first_over sheet ≡ Some p
 over_found {sheet} {p} form a b = go (first_over sheet) refl
   where
-    go : (o : Option ℕ) → first_over sheet ≡ o → first_over sheet ≡ some p
-    go none e = absurd (over_none sheet p e a)
-    go (some q) e =
+    go : (o : Option ℕ) → first_over sheet ≡ o → first_over sheet ≡ Some p
+    go None e = absurd (over_none sheet p e a)
+    go (Some q) e =
         let least = over_smallest sheet q form e in
         let same : q ≡ p = omega (arith, b q least.0, least.1 p a) in
-        e ∙ ap (λ (k : ℕ). some k) same
+        e ∙ ap (λ (k : ℕ). Some k) same
 
 -- in a text of the form what is too many stands within the text
 pub over_within : {s : List ℕ} (sheet : Sheet) (p : ℕ) → OfForm s sheet → IsOver sheet p → p < length s

@@ -1,4 +1,5 @@
 -- What a reader must believe: each file says one thing of the published rules, in an order that can be read from top to bottom.
+pub mod Options
 pub mod Lists
 pub mod Sets
 pub mod Needs

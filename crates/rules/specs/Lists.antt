@@ -1,6 +1,6 @@
 -- Plain words about lists that the rules are written in.
 use Rattle.std.specs.Prelude.{Bool, true, false, cond, ◌&&◌, ◌||◌, List, [], ◌∷◌, ℕ, zero, suc}
-use Rattle.std.proofs.Math.Option.{Option, none, some, map}
+use Rattle.rules.specs.Options.{Option, None, Some, option_map}
 
 module _ {A : Type 0} where
   -- the test holds of every one
@@ -20,13 +20,13 @@ module _ {A : Type 0} where
 
   -- the place of the first of which the test holds
   unfoldable pub first_where : (A → Bool) → List A → Option ℕ
-  first_where p [] = none
-  first_where p (x ∷ xs) = cond (p x) (some 0) (map suc (first_where p xs))
+  first_where p [] = None
+  first_where p (x ∷ xs) = cond (p x) (Some 0) (option_map suc (first_where p xs))
 
   -- the first one, if there is one
   unfoldable pub first_of : List A → Option A
-  first_of [] = none
-  first_of (x ∷ xs) = some x
+  first_of [] = None
+  first_of (x ∷ xs) = Some x
 
   -- a list written over the first places of another, as far as there are places; the places after it stay
   unfoldable pub written : List A → List A → List A

@@ -1,6 +1,6 @@
 -- Jobs as numbers, and which numbers are unfit. Each clause of 01's list has its own name; the numbers are unfit exactly if one of them holds.
 use Rattle.std.specs.Prelude.{Bool, true, false, not, cond, ◌&&◌, ◌||◌, List, [], ◌∷◌, ℕ, eqb, ltb, leb, length}
-use Rattle.std.proofs.Math.Option.{Option, none, some, map}
+use Rattle.rules.specs.Options.{Option, None, Some, option_map}
 use Rattle.rules.specs.Lists.{any_of, keep}
 use Rattle.rules.specs.Sets.{most_columns, within}
 use Rattle.rules.specs.Marks.{and_mark, end_mark, rows, operands_of, need_of, needs_of}
@@ -48,8 +48,8 @@ markless (m ∷ row) = false
 module _ {A : Type 0} where
   -- there is nothing
   unfoldable pub absent : Option A → Bool
-  absent none = true
-  absent (some a) = false
+  absent None = true
+  absent (Some a) = false
 
 -- "has a join with fewer than two operands before it"
 unfoldable pub joins_too_few : List ℕ → Bool
@@ -89,5 +89,5 @@ unfit q =
 -- the job that fit numbers stand for; unfit numbers stand for none
 unfoldable pub job_of : Numbers → Option Job
 job_of q =
-    cond (unfit q) none
-    (map (λ (needs : List Need). record { columns = q.columns; forbidden = q.forbidden; needs = needs }) (needs_of (rows q.marks)))
+    cond (unfit q) None
+    (option_map (λ (needs : List Need). record { columns = q.columns; forbidden = q.forbidden; needs = needs }) (needs_of (rows q.marks)))

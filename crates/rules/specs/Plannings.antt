@@ -1,6 +1,6 @@
 -- What the call for the planner's split comes to, and what the lent slice holds then. "Order for numbers: 7, 8, 9."
 use Rattle.std.specs.Prelude.{cond, List, ℕ, ltb, length}
-use Rattle.std.proofs.Math.Option.{Option-elim}
+use Rattle.rules.specs.Options.{Option-elim}
 use Rattle.rules.specs.Lists.{written}
 use Rattle.rules.specs.Jobs.{Job}
 use Rattle.rules.specs.Numbers.{Numbers, job_of}

@@ -1,7 +1,7 @@
 -- The planner's split. "Among all correct splits those with fewest extracts; among these, fewest columns in all; written as rising numbers,
 -- and among what is left, the one whose first differing number is smaller. Exactly one split meets this."
 use Rattle.std.specs.Prelude.{◌≡◌, Bool, true, false, cond, List, [], ◌∷◌, ◌++◌, map, ℕ, ◌+◌, ◌-◌, ◌^◌, eqb, ltb, leb, length}
-use Rattle.std.proofs.Math.Option.{Option, none, some}
+use Rattle.rules.specs.Options.{Option, None, Some}
 use Rattle.rules.specs.Lists.{every, keep, up_from}
 use Rattle.rules.specs.Jobs.{Job, allowed, unlinked, price}
 use Rattle.rules.specs.Splits.{correct}
@@ -50,13 +50,13 @@ splits job = keep (correct job) (choices job (keep (allowed job) (up_from 1 (2 ^
 
 -- of two splits the one with the lower rank
 unfoldable pub better : Job → List ℕ → Option (List ℕ) → List ℕ
-better job split none = split
-better job split (some other) = cond (not_after (rank job split) (rank job other)) split other
+better job split None = split
+better job split (Some other) = cond (not_after (rank job split) (rank job other)) split other
 
 -- the one with the lowest rank
 unfoldable pub best : Job → List (List ℕ) → Option (List ℕ)
-best job [] = none
-best job (split ∷ others) = some (better job split (best job others))
+best job [] = None
+best job (split ∷ others) = Some (better job split (best job others))
 
 -- the planner's split, by trying all; none where no split is correct
 unfoldable pub plan : Job → Option (List ℕ)

@@ -1,6 +1,6 @@
 -- What reading a job text comes to. "Any input at all gets its one determined answer."
 use Rattle.std.specs.Prelude.{List, ℕ, ◌<◌, ◌≤◌, length}
-use Rattle.std.proofs.Math.Option.{Option-elim}
+use Rattle.rules.specs.Options.{Option-elim}
 use Rattle.rules.specs.Numbers.{Numbers}
 use Rattle.rules.specs.Refusals.{text_too_long, text_not_of_form}
 use Rattle.rules.specs.Texts.{Sheet, OfForm, StopsAt}

@@ -1,8 +1,7 @@
 -- What a text of the form comes to: refusal 3, then 4 or 5, then 6, or the numbers of a job and the names of its columns. Wherever 01 asks for the
 -- smallest place it is found by going through the text from its beginning; SheetFaults.antt has the sentences that this renders.
 use Rattle.std.specs.Prelude.{Bool, cond, List, [], ◌∷◌, ◌++◌, map, ℕ, zero, suc, ◌+◌, ◌^◌, eqb, length, drop}
-use Rattle.std.proofs.Math.Option
-use Rattle.std.proofs.Math.Option.{Option, none, some, get_or, or_else}
+use Rattle.rules.specs.Options.{Option, None, Some, unwrap_or, option_or, option_map}
 use Rattle.rules.specs.Lists.{any_of, first_where, first_of}
 use Rattle.rules.specs.Sets.{most_columns, empty, union}
 use Rattle.rules.specs.Needs.{Need, column, both, either}
@@ -26,21 +25,21 @@ refusal number place = record { number = number; place = place }
 
 -- the place of the name after the first k
 unfoldable pub name_after : ℕ → List Spot → Option ℕ
-name_after k names = Option.map (λ x. x.place) (first_of (drop k names))
+name_after k names = option_map (λ x. x.place) (first_of (drop k names))
 
 -- the place of the line after the first k
 unfoldable pub line_after : {A : Type 0} → ℕ → List (Line A) → Option ℕ
-line_after k lines = Option.map (λ l. l.place) (first_of (drop k lines))
+line_after k lines = option_map (λ l. l.place) (first_of (drop k lines))
 
 -- of need lines of which k may stand: the 33rd name of one of the first k, or the line after them
 unfoldable pub needs_over : ℕ → List (Line Formula) → Option ℕ
-needs_over k [] = none
-needs_over zero (l ∷ lines) = some l.place
-needs_over (suc k) (l ∷ lines) = or_else (name_after most_column_marks (names_in l.value)) (needs_over k lines)
+needs_over k [] = None
+needs_over zero (l ∷ lines) = Some l.place
+needs_over (suc k) (l ∷ lines) = option_or (name_after most_column_marks (names_in l.value)) (needs_over k lines)
 
 unfoldable pub first_over : Sheet → Option ℕ
 first_over sheet =
-    or_else (name_after most_columns sheet.columns) (or_else (line_after most_forbidden sheet.forbids) (needs_over most_needs sheet.needs))
+    option_or (name_after most_columns sheet.columns) (option_or (line_after most_forbidden sheet.forbids) (needs_over most_needs sheet.needs))
 
 -- ---- 4: "a name twice in columns=, or a known name twice in one forbid"; 5: "a name in forbid or need that isn't a column"
 
@@ -54,28 +53,28 @@ stands_in names x = any_of (λ c. same_name c.name x.name) names
 
 -- the first name at fault, by a test that also sees the names before it
 unfoldable pub first_name_fault : (List Spot → Spot → Option ℕ) → List Spot → List Spot → Option Refusal
-first_name_fault fault before [] = none
+first_name_fault fault before [] = None
 first_name_fault fault before (x ∷ names) =
-    or_else (Option.map (λ number. refusal number x.place) (fault before x)) (first_name_fault fault (before ++ (x ∷ [])) names)
+    option_or (option_map (λ number. refusal number x.place) (fault before x)) (first_name_fault fault (before ++ (x ∷ [])) names)
 
 unfoldable pub column_fault : List Spot → Spot → Option ℕ
-column_fault before x = cond (stands_in before x) (some name_twice) none
+column_fault before x = cond (stands_in before x) (Some name_twice) None
 
 unfoldable pub need_fault : List Spot → List Spot → Spot → Option ℕ
-need_fault columns before x = cond (stands_in columns x) none (some name_unknown)
+need_fault columns before x = cond (stands_in columns x) None (Some name_unknown)
 
 unfoldable pub forbid_fault : List Spot → List Spot → Spot → Option ℕ
-forbid_fault columns before x = or_else (need_fault columns before x) (column_fault before x)
+forbid_fault columns before x = option_or (need_fault columns before x) (column_fault before x)
 
 -- the first fault in lines of names
 unfoldable pub lines_fault : (List Spot → Spot → Option ℕ) → List (List Spot) → Option Refusal
-lines_fault fault [] = none
-lines_fault fault (names ∷ lines) = or_else (first_name_fault fault [] names) (lines_fault fault lines)
+lines_fault fault [] = None
+lines_fault fault (names ∷ lines) = option_or (first_name_fault fault [] names) (lines_fault fault lines)
 
 unfoldable pub names_fault : Sheet → Option Refusal
 names_fault sheet =
-    or_else (first_name_fault column_fault [] sheet.columns)
-    (or_else (lines_fault (forbid_fault sheet.columns) (map (λ l. l.value) sheet.forbids))
+    option_or (first_name_fault column_fault [] sheet.columns)
+    (option_or (lines_fault (forbid_fault sheet.columns) (map (λ l. l.value) sheet.forbids))
     (lines_fault (need_fault sheet.columns) (map (λ l. names_in l.value) sheet.needs)))
 
 -- ---- 6: "end= has another number"; "the number of forbid and need lines together"
@@ -85,17 +84,17 @@ lines_in sheet = length sheet.forbids + length sheet.needs
 
 unfoldable pub end_fault : Sheet → Option Refusal
 end_fault sheet =
-    cond (eqb sheet.ended.value (lines_in sheet)) none (some (refusal end_number_other sheet.ended.place))
+    cond (eqb sheet.ended.value (lines_in sheet)) None (Some (refusal end_number_other sheet.ended.place))
 
 -- "Order for text: 1, 2, 3, then 4 or 5 whichever has the smaller place, then 6."
 unfoldable pub sheet_fault : Sheet → Option Refusal
-sheet_fault sheet = or_else (Option.map (refusal too_many_parts) (first_over sheet)) (or_else (names_fault sheet) (end_fault sheet))
+sheet_fault sheet = option_or (option_map (refusal too_many_parts) (first_over sheet)) (option_or (names_fault sheet) (end_fault sheet))
 
 -- ---- the job
 
 -- a name's column, 0 where it is unknown
 unfoldable pub column_in : List Spot → Spot → ℕ
-column_in columns x = get_or (column_named columns x.name) 0
+column_in columns x = unwrap_or (column_named columns x.name) 0
 
 -- the set with the columns of these names too
 unfoldable pub set_with : List Spot → ℕ → List Spot → ℕ

@@ -1,6 +1,6 @@
 -- 01's small table: what is asked of which numbers, and what the table says.
 use Rattle.std.specs.Prelude.{List, [], ◌∷◌, ℕ}
-use Rattle.std.proofs.Math.Option.{map, get_or}
+use Rattle.rules.specs.Options.{option_map, unwrap_or}
 use Rattle.rules.specs.Jobs.{Job}
 use Rattle.rules.specs.Numbers.{Numbers, job_of}
 use Rattle.rules.specs.Plans.{plan}
@@ -19,12 +19,12 @@ pub data Answer : Type 0 where
   is_refused : ℕ → Answer
 
 unfoldable pub answer_of_job : Question → Job → Answer
-answer_of_job split job = get_or (map is_split (plan job)) (is_refused no_correct_split)
+answer_of_job split job = unwrap_or (option_map is_split (plan job)) (is_refused no_correct_split)
 answer_of_job diagram_of_first job = is_diagram (diagram job 0).root (diagram job 0).nodes
 answer_of_job paths_of_first job = are_paths (one_paths job 0)
 
 unfoldable pub answer : Question → Numbers → Answer
-answer question q = get_or (map (answer_of_job question) (job_of q)) (is_refused numbers_unfit)
+answer question q = unwrap_or (option_map (answer_of_job question) (job_of q)) (is_refused numbers_unfit)
 
 -- a row: the number of 01's case, the numbers, the question, and the answer that the table states
 pub record Row : Type 0 where

@@ -2,7 +2,7 @@
 use mathlib.Core.Path.{◌≡◌, sym, ap, ◌∙◌}
 use mathlib.Core.Bool.{Bool, true, not, ◌&&◌}
 use mathlib.Core.List.{List, []}
-use mathlib.Core.Option.{some}
+use Rattle.rules.specs.Options.{Some}
 use Prim.Native.Nat.{ℕ, ◌≤◌, ◌<◌, min}
 use native.Mathlib.Omega.{arith}
 use lib.ListN.{length, get_or, take}
@@ -36,12 +36,12 @@ module _ (job : Held) (sound : Sound job) where
   pub job_blocks : blocks (min job.columns 16) ≡ blocks job.columns
   job_blocks = let same : min job.columns 16 ≡ job.columns = omega (arith, few_columns_lem) in rw same
 
-  module _ (j : Job) (e : job_of (numbers_in job) ≡ some j) where
+  module _ (j : Job) (e : job_of (numbers_in job) ≡ Some j) where
     pub all_needs_lem : length j.needs ≡ job.needs
     all_needs_lem = (job_fit (numbers_in job) j e).as_many_needs ∙ sym sound.needs
 
     pub need_told : (chosen count : ℕ) (words : List ℕ) → chosen < job.needs
-        → ((v : Need) → need_of (before_end (get_or (rows_of (rows (take job.marked job.marks))) chosen [])) ≡ some v → Tells count (meets v) words)
+        → ((v : Need) → need_of (before_end (get_or (rows_of (rows (take job.marked job.marks))) chosen [])) ≡ Some v → Tells count (meets v) words)
         → Tells count (meets_chosen j.needs chosen) words
     unfolding numbers_in
     need_told chosen count words h told =

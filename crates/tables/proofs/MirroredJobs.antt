@@ -2,7 +2,7 @@
 use mathlib.Core.Path.{◌≡◌, refl, sym, ap, ap₂, ◌∙◌}
 use mathlib.Core.Bool.{Bool, true, false, not, ◌&&◌, ◌||◌}
 use mathlib.Core.List.{List, [], ◌∷◌, map}
-use mathlib.Core.Option.{some}
+use Rattle.rules.specs.Options.{Some}
 use Prim.Native.Nat.{ℕ, zero, suc, ◌^◌, ◌≤◌, ◌<◌}
 use native.Mathlib.Omega.{arith}
 use lib.Dec.{eqb}
@@ -108,7 +108,7 @@ module _ (q : Numbers) (e : unfit q ≡ false) where
         needs,
       )
 
-module _ (q : Numbers) (j : Job) (e : job_of q ≡ some j) where
+module _ (q : Numbers) (j : Job) (e : job_of q ≡ Some j) where
   -- what the mirrored numbers stand for
   abbrev mirrored_meaning : Job
   mirrored_meaning =
@@ -118,7 +118,7 @@ module _ (q : Numbers) (j : Job) (e : job_of q ≡ some j) where
         needs = map (mirrored_need q.columns) j.needs;
       }
 
-  meaning_mirrored : job_of (mirrored_numbers q) ≡ some mirrored_meaning
+  meaning_mirrored : job_of (mirrored_numbers q) ≡ Some mirrored_meaning
   unfolding job_of
   meaning_mirrored =
       let n = q.columns in
@@ -161,8 +161,8 @@ module _ (job : Held) where
         needs = rw numbers_mirrored (sound.needs ∙ sym (as_many_rows (numbers_in job) sound.fit));
       }
 
-  pub mirrored_told : (j : Job) → job_of (numbers_in job) ≡ some j → (chosen count : ℕ) (words : List ℕ)
-      → ((m : Job) → job_of (numbers_in (mirrored_job job)) ≡ some m → Tells count (condition m chosen) words)
+  pub mirrored_told : (j : Job) → job_of (numbers_in job) ≡ Some j → (chosen count : ℕ) (words : List ℕ)
+      → ((m : Job) → job_of (numbers_in (mirrored_job job)) ≡ Some m → Tells count (condition m chosen) words)
       → Tells count (λ place. condition j chosen (mirror job.columns place)) words
   unfolding numbers_in
   mirrored_told j e chosen count words told =

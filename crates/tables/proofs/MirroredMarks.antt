@@ -2,8 +2,7 @@
 use mathlib.Core.Path.{◌≡◌, refl, sym, ap, ◌∙◌}
 use mathlib.Core.Bool.{Bool, true, false, not, cond}
 use mathlib.Core.List.{List, [], ◌∷◌, map}
-use mathlib.Core.Option
-use mathlib.Core.Option.{Option, none, some, bind}
+use Rattle.rules.specs.Options.{Option, None, Some, bind, option_map}
 use Prim.Native.Nat.{ℕ, suc, ◌-◌, ◌≤◌, ◌<◌}
 use native.Mathlib.Decide.{dec_lt}
 use native.Mathlib.Omega.{arith}
@@ -91,14 +90,14 @@ module _ (n : ℕ) (few : n ≤ 16) where
   -- ---- the need of a row
 
   after_mirrored : (m : ℕ) (vs : List Need)
-      → after (mirrored_mark n m) (map (mirrored_need n) vs) ≡ Option.map (map (mirrored_need n)) (after m vs)
+      → after (mirrored_mark n m) (map (mirrored_need n) vs) ≡ option_map (map (mirrored_need n)) (after m vs)
   unfolding after joined
   after_mirrored m vs = rw (mark_is and_mark (omega arith) m, mark_is or_mark (omega arith) m) (go (eqb m and_mark) (eqb m or_mark) vs)
     where
       go : (a o : Bool) (us : List Need)
           → cond a (joined both (map (mirrored_need n) us))
-          (cond o (joined either (map (mirrored_need n) us)) (some (column (mirrored_mark n m) ∷ map (mirrored_need n) us)))
-          ≡ Option.map (map (mirrored_need n)) (cond a (joined both us) (cond o (joined either us) (some (column m ∷ us))))
+          (cond o (joined either (map (mirrored_need n) us)) (Some (column (mirrored_mark n m) ∷ map (mirrored_need n) us)))
+          ≡ option_map (map (mirrored_need n)) (cond a (joined both us) (cond o (joined either us) (Some (column m ∷ us))))
       go true o [] = refl
       go true o (w ∷ []) = refl
       go true o (w ∷ v ∷ us) = refl
@@ -108,49 +107,49 @@ module _ (n : ℕ) (few : n ≤ 16) where
       go false false us = refl
 
   operands_mirrored : (row : List ℕ) (vs : List Need)
-      → operands_of (map (mirrored_mark n) row) (map (mirrored_need n) vs) ≡ Option.map (map (mirrored_need n)) (operands_of row vs)
+      → operands_of (map (mirrored_mark n) row) (map (mirrored_need n) vs) ≡ option_map (map (mirrored_need n)) (operands_of row vs)
   unfolding operands_of bind
   operands_mirrored [] vs = refl
   operands_mirrored (m ∷ row) vs = rw (after_mirrored m vs) (go (after m vs) (operands_mirrored row))
     where
       go : (o : Option (List Need))
           → ((us : List Need)
-          → operands_of (map (mirrored_mark n) row) (map (mirrored_need n) us) ≡ Option.map (map (mirrored_need n)) (operands_of row us))
-          → bind (Option.map (map (mirrored_need n)) o) (operands_of (map (mirrored_mark n) row))
-          ≡ Option.map (map (mirrored_need n)) (bind o (operands_of row))
-      go none f = refl
-      go (some us) f = f us
+          → operands_of (map (mirrored_mark n) row) (map (mirrored_need n) us) ≡ option_map (map (mirrored_need n)) (operands_of row us))
+          → bind (option_map (map (mirrored_need n)) o) (operands_of (map (mirrored_mark n) row))
+          ≡ option_map (map (mirrored_need n)) (bind o (operands_of row))
+      go None f = refl
+      go (Some us) f = f us
 
-  need_mirrored : (row : List ℕ) → need_of (map (mirrored_mark n) row) ≡ Option.map (mirrored_need n) (need_of row)
+  need_mirrored : (row : List ℕ) → need_of (map (mirrored_mark n) row) ≡ option_map (mirrored_need n) (need_of row)
   unfolding need_of bind only
   need_mirrored row = rw (operands_mirrored row []) (go (operands_of row []))
     where
-      go : (o : Option (List Need)) → bind (Option.map (map (mirrored_need n)) o) only ≡ Option.map (mirrored_need n) (bind o only)
-      go none = refl
-      go (some []) = refl
-      go (some (v ∷ [])) = refl
-      go (some (v ∷ w ∷ vs)) = refl
+      go : (o : Option (List Need)) → bind (option_map (map (mirrored_need n)) o) only ≡ option_map (mirrored_need n) (bind o only)
+      go None = refl
+      go (Some []) = refl
+      go (Some (v ∷ [])) = refl
+      go (Some (v ∷ w ∷ vs)) = refl
 
-  pub needs_mirrored : (needs : List (List ℕ)) (vs : List Need) → needs_of needs ≡ some vs
-      → needs_of (map (map (mirrored_mark n)) needs) ≡ some (map (mirrored_need n) vs)
+  pub needs_mirrored : (needs : List (List ℕ)) (vs : List Need) → needs_of needs ≡ Some vs
+      → needs_of (map (map (mirrored_mark n)) needs) ≡ Some (map (mirrored_need n) vs)
   unfolding needs_of bind
-  needs_mirrored needs vs e = all needs ∙ ap (Option.map (map (mirrored_need n))) e
+  needs_mirrored needs vs e = all needs ∙ ap (option_map (map (mirrored_need n))) e
     where
       go : (o : Option Need) (p : Option (List Need))
-          → bind (Option.map (mirrored_need n) o) (λ v. bind (Option.map (map (mirrored_need n)) p) (λ ws. some (v ∷ ws)))
-          ≡ Option.map (map (mirrored_need n)) (bind o (λ v. bind p (λ ws. some (v ∷ ws))))
-      go none p = refl
-      go (some v) none = refl
-      go (some v) (some ws) = refl
+          → bind (option_map (mirrored_need n) o) (λ v. bind (option_map (map (mirrored_need n)) p) (λ ws. Some (v ∷ ws)))
+          ≡ option_map (map (mirrored_need n)) (bind o (λ v. bind p (λ ws. Some (v ∷ ws))))
+      go None p = refl
+      go (Some v) None = refl
+      go (Some v) (Some ws) = refl
 
-      all : (rest : List (List ℕ)) → needs_of (map (map (mirrored_mark n)) rest) ≡ Option.map (map (mirrored_need n)) (needs_of rest)
+      all : (rest : List (List ℕ)) → needs_of (map (map (mirrored_mark n)) rest) ≡ option_map (map (mirrored_need n)) (needs_of rest)
       all [] = refl
       all (row ∷ rest) = rw (need_mirrored row, all rest) (go (need_of row) (needs_of rest))
 
-  absent_map : {A B : Type 0} (f : A → B) (o : Option A) → absent (Option.map f o) ≡ absent o
+  absent_map : {A B : Type 0} (f : A → B) (o : Option A) → absent (option_map f o) ≡ absent o
   unfolding absent
-  absent_map f none = refl
-  absent_map f (some a) = refl
+  absent_map f None = refl
+  absent_map f (Some a) = refl
 
   markless_map : (row : List ℕ) → markless (map (mirrored_mark n) row) ≡ markless row
   unfolding markless

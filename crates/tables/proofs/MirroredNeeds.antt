@@ -2,7 +2,7 @@
 use mathlib.Core.Path.{◌≡◌, refl, sym, ap, ap₂, ◌∙◌}
 use mathlib.Core.Bool.{Bool, true, false, cond, ◌&&◌, ◌||◌}
 use mathlib.Core.List.{List, [], ◌∷◌}
-use mathlib.Core.Option.{some, bind, bind-eq-some_iff, some-injective, none-ne-some}
+use Rattle.rules.proofs.Options.{Some, bind, bind-eq-some_iff, some-injective, none-ne-some}
 use Prim.Native.Nat.{ℕ, ◌<◌}
 use native.Mathlib.Omega.{arith}
 use lib.Dec.{eqb, ltb, leb}
@@ -73,7 +73,7 @@ module _ (n : ℕ) where
       go false h (row ∷ rest) f = rw (h refl) f
 
   joined_below : (join : Need → Need → Need) → ((v w : Need) → names_below n (join v w) ≡ (names_below n v && names_below n w)) → (vs us : List Need)
-      → every (names_below n) vs ≡ true → joined join vs ≡ some us → every (names_below n) us ≡ true
+      → every (names_below n) vs ≡ true → joined join vs ≡ Some us → every (names_below n) us ≡ true
   unfolding joined every
   joined_below join splits [] us h e = absurd (none-ne-some us e)
   joined_below join splits (w ∷ []) us h e = absurd (none-ne-some us e)
@@ -84,12 +84,12 @@ module _ (n : ℕ) where
       (and_both (names_below n (join v w)) (every (names_below n) vs)
       (splits v w ∙ and_both (names_below n v) (names_below n w) others.0 last.0) others.1)
 
-  after_below : (m : ℕ) (vs us : List Need) → named m ≡ true → every (names_below n) vs ≡ true → after m vs ≡ some us
+  after_below : (m : ℕ) (vs us : List Need) → named m ≡ true → every (names_below n) vs ≡ true → after m vs ≡ Some us
       → every (names_below n) us ≡ true
   unfolding every
   after_below m vs us h f e = go (is_join m) refl
     where
-      join : (b : Bool) → joined (cond b both either) vs ≡ some us → every (names_below n) us ≡ true
+      join : (b : Bool) → joined (cond b both either) vs ≡ Some us → every (names_below n) us ≡ true
       join true g = joined_below both (λ v w. refl) vs us f g
       join false g = joined_below either (λ v w. refl) vs us f g
 
@@ -99,7 +99,7 @@ module _ (n : ℕ) where
           rw (← some-injective (column m ∷ vs) us (sym (after_column m vs j) ∙ e))
           (and_both (ltb m n) (every (names_below n) vs) (rw j at h) f)
 
-  operands_below : (row : List ℕ) (vs ws : List Need) → every named row ≡ true → every (names_below n) vs ≡ true → operands_of row vs ≡ some ws
+  operands_below : (row : List ℕ) (vs ws : List Need) → every named row ≡ true → every (names_below n) vs ≡ true → operands_of row vs ≡ Some ws
       → every (names_below n) ws ≡ true
   unfolding operands_of every bind-eq-some_iff
   operands_below [] vs ws h f e = rw (← some-injective vs ws e) f
@@ -108,30 +108,30 @@ module _ (n : ℕ) where
       let more = (bind-eq-some_iff (after m vs) (operands_of row)).0 e in
       operands_below row more.0 ws parts.1 (after_below m vs more.0 parts.0 f more.1) more.2
 
-  only_below : (vs : List Need) (v : Need) → every (names_below n) vs ≡ true → only vs ≡ some v → names_below n v ≡ true
+  only_below : (vs : List Need) (v : Need) → every (names_below n) vs ≡ true → only vs ≡ Some v → names_below n v ≡ true
   unfolding only every
   only_below [] v h e = absurd (none-ne-some v e)
   only_below (w ∷ []) v h e = rw (← some-injective w v e) (and_parts (names_below n w) true h).0
   only_below (w ∷ u ∷ vs) v h e = absurd (none-ne-some v e)
 
-  need_below : (row : List ℕ) (v : Need) → every named row ≡ true → need_of row ≡ some v → names_below n v ≡ true
+  need_below : (row : List ℕ) (v : Need) → every named row ≡ true → need_of row ≡ Some v → names_below n v ≡ true
   unfolding need_of every bind-eq-some_iff
   need_below row v h e =
       let left = (bind-eq-some_iff (operands_of row []) only).0 e in
       only_below left.0 v (operands_below row [] left.0 h refl left.1) left.2
 
-  all_below : (needs : List (List ℕ)) (vs : List Need) → every (every named) needs ≡ true → needs_of needs ≡ some vs
+  all_below : (needs : List (List ℕ)) (vs : List Need) → every (every named) needs ≡ true → needs_of needs ≡ Some vs
       → every (names_below n) vs ≡ true
   unfolding needs_of every bind-eq-some_iff
   all_below [] vs h e = rw (← some-injective [] vs e)
   all_below (row ∷ needs) vs h e =
       let parts = and_parts (every named row) (every (every named) needs) h in
-      let first = (bind-eq-some_iff (need_of row) (λ v. bind (needs_of needs) (λ ws. some (v ∷ ws)))).0 e in
-      let rest = (bind-eq-some_iff (needs_of needs) (λ ws. some (first.0 ∷ ws))).0 first.2 in
+      let first = (bind-eq-some_iff (need_of row) (λ v. bind (needs_of needs) (λ ws. Some (v ∷ ws)))).0 e in
+      let rest = (bind-eq-some_iff (needs_of needs) (λ ws. Some (first.0 ∷ ws))).0 first.2 in
       rw (← some-injective (first.0 ∷ rest.0) vs rest.2)
       (and_both (names_below n first.0) (every (names_below n) rest.0) (need_below row first.0 parts.0 first.1)
       (all_below needs rest.0 parts.1 rest.1))
 
-  pub needs_below : (marks : List ℕ) (vs : List Need) → any_of (mark_unfit n) marks ≡ false → needs_of (rows marks) ≡ some vs
+  pub needs_below : (marks : List ℕ) (vs : List Need) → any_of (mark_unfit n) marks ≡ false → needs_of (rows marks) ≡ Some vs
       → every (names_below n) vs ≡ true
   needs_below marks vs fit e = all_below (rows marks) vs (rows_named marks fit) e

@@ -9,7 +9,7 @@ mod gained; // gained.rt: tables of a byte for each set
 mod mirrored; // mirrored.rt: a job with its columns in the other order
 
 ghost use Rattle.std.specs.Prelude.{◌≡◌, ◌*◌, ◌≤◌, replicate};
-ghost use Rattle.std.proofs.Math.Option.{some};
+ghost use Rattle.rules.specs.Options.{Some};
 ghost use Rattle.rules.specs.Sets.{all_sets};
 ghost use Rattle.rules.specs.Jobs.{Job as Meant};
 ghost use Rattle.rules.specs.Numbers.{job_of};
@@ -23,7 +23,7 @@ pub const ALL_BLOCKS: usize = 1024;
 // The condition of a chosen need at every set of the job's columns. The index equal to the number of needs stands for "no need".
 pub fn conditions(job: Job, chosen: usize, table: &mut [u64; ALL_BLOCKS])
     requires { Sound job × (chosen ≤ job.needs) }
-    ensures told { (j : Meant) → job_of (numbers_in job) ≡ some j → Tells (blocks job.columns) (condition j chosen) table.new }
+    ensures told { (j : Meant) → job_of (numbers_in job) ≡ Some j → Tells (blocks job.columns) (condition j chosen) table.new }
     ensures stays { Stays (blocks job.columns) table.old table.new }
 {
     let count = words::block_count(job.columns);
@@ -49,7 +49,7 @@ pub fn conditions(job: Job, chosen: usize, table: &mut [u64; ALL_BLOCKS])
 // The condition as above, with the columns in the other order: the set at a place of the table is the mirror of the place.
 pub fn mirrored_conditions(job: Job, chosen: usize, table: &mut [u64; ALL_BLOCKS])
     requires { Sound job × (chosen ≤ job.needs) }
-    ensures told { (j : Meant) → job_of (numbers_in job) ≡ some j → Tells (blocks job.columns) (λ place. condition j chosen (mirror job.columns place)) table.new }
+    ensures told { (j : Meant) → job_of (numbers_in job) ≡ Some j → Tells (blocks job.columns) (λ place. condition j chosen (mirror job.columns place)) table.new }
     ensures stays { Stays (blocks job.columns) table.old table.new }
 {
     let turned = mirrored::mirrored_job(job);
@@ -59,7 +59,7 @@ pub fn mirrored_conditions(job: Job, chosen: usize, table: &mut [u64; ALL_BLOCKS
 // Which needs every set of the job's columns gains: need k is bit k. A need is gained wherever its condition holds. The table has been 0.
 pub fn gains(job: Job, table: &mut [u8; ALL_SETS])
     requires { Sound job × (table.old ≡ replicate all_sets 0) }
-    ensures told { (j : Meant) → job_of (numbers_in job) ≡ some j → Valued (64 * blocks job.columns) (gain j) table.new }
+    ensures told { (j : Meant) → job_of (numbers_in job) ≡ Some j → Valued (64 * blocks job.columns) (gain j) table.new }
     ensures stays { Stays (64 * blocks job.columns) table.old table.new }
 {
     let count = words::block_count(job.columns);

@@ -1,6 +1,6 @@
 // Tables of a bit for each set: a word for each block of 64 sets.
 ghost use Rattle.std.specs.Prelude.{◌≡◌, true, not, ℕ, ◌%◌, ◌<◌, ◌≤◌, min, length};
-ghost use Rattle.std.proofs.Math.Option.{some};
+ghost use Rattle.rules.specs.Options.{Some};
 ghost use Rattle.rules.specs.Lists.{any_of};
 ghost use Rattle.rules.specs.Sets.{has, contains};
 ghost use Rattle.rules.specs.Needs.{Need, meets};
@@ -40,7 +40,7 @@ pub fn hold(count: usize, table: &mut [u64])
 // The sets that meet the need of a row are in the table.
 pub fn meet(row: &[u16; MOST_NEED_MARKS], count: usize, table: &mut [u64])
     requires { (count ≤ all_blocks) × (count ≤ length table.old) }
-    ensures told { (v : Need) → need_of (before_end row.now) ≡ some v → Tells count (meets v) table.new }
+    ensures told { (v : Need) → need_of (before_end row.now) ≡ Some v → Tells count (meets v) table.new }
     ensures stays { Stays count table.old table.new }
 {
     let mut block = 0;

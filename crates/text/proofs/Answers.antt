@@ -2,7 +2,7 @@
 use mathlib.Core.Path.{◌≡◌, sym, ap, ◌∙◌}
 use mathlib.Core.Bool.{false}
 use mathlib.Core.List.{List, []}
-use mathlib.Core.Option.{none}
+use Rattle.rules.specs.Options.{None}
 use Prim.Native.Nat.{ℕ, ◌≤◌, ◌<◌}
 use native.Mathlib.Omega.{arith}
 use lib.ListN.{length, take}
@@ -38,7 +38,7 @@ loaded_job : (q : Numbers) → unfit q ≡ false → (loaded q).job ≡ job_with
 unfolding loaded
 loaded_job q e = rw e
 
-module _ {s : List ℕ} {sheet : Sheet} (form : OfForm s sheet) (right : sheet_fault sheet ≡ none) where
+module _ {s : List ℕ} {sheet : Sheet} (form : OfForm s sheet) (right : sheet_fault sheet ≡ None) where
   few : length sheet.columns ≤ most_columns
   few = (counts s sheet form right).few_columns
 

@@ -4,7 +4,7 @@ use mathlib.Core.Path.{◌≡◌, sym, ap, ◌∙◌}
 use mathlib.Core.Bool.{false}
 use mathlib.Core.List.{List, []}
 use mathlib.Core.Logic.{◌⊎◌, inl, inr, ◌↔◌}
-use mathlib.Core.Option.{none, some}
+use Rattle.rules.specs.Options.{None, Some}
 use Prim.Native.Nat.{ℕ, ◌≤◌, ◌<◌}
 use native.Mathlib.Decide.{dec_lt}
 use native.Mathlib.Omega.{arith}
@@ -47,7 +47,7 @@ pub record Taken (s : List ℕ) (r : JobRead) : Type 0 where
   pub place : r.place ≡ 0
   pub numbers : numbers_in r.job ≡ numbers_of sheet
   pub fit : unfit (numbers_in r.job) ≡ false
-  pub job : job_of (numbers_in r.job) ≡ some (job_in sheet)
+  pub job : job_of (numbers_in r.job) ≡ Some (job_in sheet)
   pub names : r.names ≡ name_table (names_of sheet)
 
 through : {A B C : Type 0} → A ↔ B → B ↔ C → A ↔ C
@@ -110,7 +110,7 @@ module _ {s : List ℕ} {r : JobRead} (a : Takes s r) where
       go (refused number p) b e = let n = refused_numbers b in absurd (omega (arith, ap (λ (t : JobRead). t.refusal) e, z))
       go (taken q names) b e = (q, names, (taken_exactly s q names).0 b)
 
-  answer_of_lem : (sheet : Sheet) → length s ≤ most_bytes → OfForm s sheet → sheet_fault sheet ≡ none → r ≡ read_of (taken (numbers_of sheet) (names_of sheet))
+  answer_of_lem : (sheet : Sheet) → length s ≤ most_bytes → OfForm s sheet → sheet_fault sheet ≡ None → r ≡ read_of (taken (numbers_of sheet) (names_of sheet))
   answer_of_lem sheet short form right =
       answer_as {w = taken (numbers_of sheet) (names_of sheet)} (rw (← (reading_taken sheet right)) (of_form sheet short form))
 
@@ -128,9 +128,9 @@ module _ {s : List ℕ} {r : JobRead} (a : Takes s r) where
   pub is_taken : r.refusal ≡ 0 → Taken s r
   is_taken z =
       let k = (accepted z).2 in
-      let none : sheet_fault k.sheet ≡ none = (right_exactly k.sheet k.form).1 k.right in
-      let e = answer_of_lem k.sheet k.short k.form none in
-      let fit : unfit (numbers_of k.sheet) ≡ false = sheet_fit s k.sheet k.form none in
+      let None : sheet_fault k.sheet ≡ None = (right_exactly k.sheet k.form).1 k.right in
+      let e = answer_of_lem k.sheet k.short k.form None in
+      let fit : unfit (numbers_of k.sheet) ≡ false = sheet_fit s k.sheet k.form None in
       let held : numbers_in r.job ≡ numbers_of k.sheet = ap (λ (t : JobRead). numbers_in t.job) e ∙ fit_numbers (numbers_of k.sheet) fit in
       record {
         sheet = k.sheet;
@@ -139,6 +139,6 @@ module _ {s : List ℕ} {r : JobRead} (a : Takes s r) where
         place = ap (λ (t : JobRead). t.place) e;
         numbers = held;
         fit = rw held fit;
-        job = rw held (sheet_job s k.sheet k.form none);
+        job = rw held (sheet_job s k.sheet k.form None);
         names = ap (λ (t : JobRead). t.names) e;
       }

@@ -1,6 +1,6 @@
 -- The promise of the call, as a relation of the text and what is answered.
 use Rattle.std.specs.Prelude.{◌≡◌, List, [], ℕ}
-use Rattle.std.proofs.Math.Option.{none}
+use Rattle.rules.specs.Options.{None}
 use Rattle.rules.specs.Texts.{Sheet, OfForm}
 use Rattle.rules.specs.Sheets.{sheet_fault}
 use Rattle.rules.specs.Readings.{Reading, refused, taken, Reads}
@@ -21,4 +21,4 @@ pub record Takes (s : List ℕ) (answer : JobRead) : Type 0 where
 
 -- the text is of the form and without a fault
 abbrev pub Right : List ℕ → Type 0
-Right s = (sheet : Sheet) × OfForm s sheet × (sheet_fault sheet ≡ none)
+Right s = (sheet : Sheet) × OfForm s sheet × (sheet_fault sheet ≡ None)

@@ -13,7 +13,7 @@ mod sets; // sets.rt: the forbidden sets
 mod needs; // needs.rt: the marks of the needs
 
 ghost use Rattle.std.specs.Prelude.{◌≡◌};
-ghost use Rattle.std.proofs.Math.Option.{none};
+ghost use Rattle.rules.specs.Options.{None};
 ghost use Rattle.rules.specs.Texts.{Sheet, OfForm};
 ghost use Rattle.rules.specs.Sheets.{sheet_fault};
 ghost use Rattle.rules.specs.Readings.{refused as refused_with, reading_of};
@@ -48,7 +48,7 @@ fn refused(refusal: u16, place: usize) -> JobRead
 // The job of a text without a fault.
 fn taken(text: &[u8]) -> JobRead
     requires { Right text.now }
-    ensures { (sheet : Sheet) → OfForm text.now sheet → sheet_fault sheet ≡ none → result ≡ read_of (reading_of sheet) }
+    ensures { (sheet : Sheet) → OfForm text.now sheet → sheet_fault sheet ≡ None → result ≡ read_of (reading_of sheet) }
 {
     let places = sections(text);
     let table = table::name_table(text);

@@ -1,6 +1,6 @@
 -- `tables::gains` meets its contract. Assumes nothing.
 use mathlib.Core.Path.{◌≡◌}
-use mathlib.Core.Option.{some}
+use Rattle.rules.specs.Options.{Some}
 use Prim.Native.Nat.{◌-◌, ◌*◌, ◌≤◌}
 use Rattle.rules.specs.Jobs.{Job}
 use Rattle.rules.specs.Numbers.{job_of}
@@ -11,7 +11,7 @@ use Rattle.tables.proofs.gains.Given as goal
 
 abbrev pub invariant-loop-k : goal.invariant-loop-k
 invariant-loop-k l = (l.k ≤ l.job.needs) ×
-    ((j : Job) → job_of (numbers_in l.job) ≡ some j → Valued (64 * l.count) (gain_of j l.k) l.table) × Stays (64 * l.count) l.initial.table l.table
+    ((j : Job) → job_of (numbers_in l.job) ≡ Some j → Valued (64 * l.count) (gain_of j l.k) l.table) × Stays (64 * l.count) l.initial.table l.table
 
 abbrev pub decreases-loop-k : goal.decreases-loop-k
 decreases-loop-k l = l.job.needs - l.k

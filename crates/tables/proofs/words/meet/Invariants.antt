@@ -1,6 +1,6 @@
 -- `tables::words::meet` meets its contract. Assumes nothing.
 use mathlib.Core.Path.{◌≡◌}
-use mathlib.Core.Option.{some}
+use Rattle.rules.specs.Options.{Some}
 use Prim.Native.Nat.{◌-◌, ◌≤◌}
 use lib.ListN.{length}
 use Rattle.rules.specs.Needs.{Need, meets}
@@ -10,7 +10,7 @@ use Rattle.tables.proofs.words.meet.Given as goal
 
 abbrev pub invariant-loop-block : goal.invariant-loop-block
 invariant-loop-block l = (l.block ≤ l.count) × (length l.table ≡ length l.initial.table) ×
-    ((v : Need) → need_of (before_end l.row) ≡ some v → Tells l.block (meets v) l.table)
+    ((v : Need) → need_of (before_end l.row) ≡ Some v → Tells l.block (meets v) l.table)
     × Stays l.block l.initial.table l.table
 
 abbrev pub decreases-loop-block : goal.decreases-loop-block
