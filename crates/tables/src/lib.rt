@@ -2,7 +2,7 @@
 #![tactic(auto)]
 
 use columns::ALL_SETS;
-use job::{Job, MOST_FORBIDDEN, MOST_MARKS};
+use job::Job;
 
 mod words; // words.rt: tables of a bit for each set
 mod gained; // gained.rt: tables of a byte for each set
@@ -21,46 +21,39 @@ ghost use Rattle.tables.specs.Tables.{blocks, Tells, Valued, Stays, mirror};
 pub const ALL_BLOCKS: usize = 1024;
 
 // The condition of a chosen need at every set of the job's columns. The index equal to the number of needs stands for "no need".
-pub fn conditions(job: Job, chosen: usize, table: &mut [u64; ALL_BLOCKS])
-    requires { Sound job × (chosen ≤ job.needs) }
-    ensures told { (j : Meant) → job_of (numbers_in job) ≡ Some j → Tells (blocks job.columns) (condition j chosen) table.new }
-    ensures stays { Stays (blocks job.columns) table.old table.new }
+pub fn conditions(job: &Job, chosen: usize, table: &mut [u64; ALL_BLOCKS])
+    requires { Sound job.now × (chosen ≤ job.now.needs) }
+    ensures told { (j : Meant) → job_of (numbers_in job.now) ≡ Some j → Tells (blocks job.now.columns) (condition j chosen) table.new }
+    ensures stays { Stays (blocks job.now.columns) table.old table.new }
 {
     let count = words::block_count(job.columns);
-    let marked = job.marked;
-    let marks = job.marks;
     if chosen < job.needs {
         // The proof learns how many places there are where a reference to the array becomes a slice.
-        let all: &[u16; MOST_MARKS] = &marks;
-        let places: &[u16] = all;
-        let rows = job::rows::rows_of(&places[..marked]);
-        let row = rows[chosen];
-        words::meet(&row, count, table);
+        let marks: &[u16] = &job.marks;
+        let rows = job::rows::rows_of(&marks[..job.marked]);
+        words::meet(&rows[chosen], count, table);
     } else {
         words::hold(count, table);
     }
-    let sets = job.sets;
-    let forbidden = job.forbidden;
-    let all: &[u16; MOST_FORBIDDEN] = &forbidden;
-    let places: &[u16] = all;
-    words::forbid_all(&places[..sets], count, table);
+    let forbidden: &[u16] = &job.forbidden;
+    words::forbid_all(&forbidden[..job.sets], count, table);
 }
 
 // The condition as above, with the columns in the other order: the set at a place of the table is the mirror of the place.
-pub fn mirrored_conditions(job: Job, chosen: usize, table: &mut [u64; ALL_BLOCKS])
-    requires { Sound job × (chosen ≤ job.needs) }
-    ensures told { (j : Meant) → job_of (numbers_in job) ≡ Some j → Tells (blocks job.columns) (λ place. condition j chosen (mirror job.columns place)) table.new }
-    ensures stays { Stays (blocks job.columns) table.old table.new }
+pub fn mirrored_conditions(job: &Job, chosen: usize, table: &mut [u64; ALL_BLOCKS])
+    requires { Sound job.now × (chosen ≤ job.now.needs) }
+    ensures told { (j : Meant) → job_of (numbers_in job.now) ≡ Some j → Tells (blocks job.now.columns) (λ place. condition j chosen (mirror job.now.columns place)) table.new }
+    ensures stays { Stays (blocks job.now.columns) table.old table.new }
 {
     let turned = mirrored::mirrored_job(job);
-    conditions(turned, chosen, table);
+    conditions(&turned, chosen, table);
 }
 
 // Which needs every set of the job's columns gains: need k is bit k. A need is gained wherever its condition holds. The table has been 0.
-pub fn gains(job: Job, table: &mut [u8; ALL_SETS])
-    requires { Sound job × (table.old ≡ replicate all_sets 0) }
-    ensures told { (j : Meant) → job_of (numbers_in job) ≡ Some j → Valued (64 * blocks job.columns) (gain j) table.new }
-    ensures stays { Stays (64 * blocks job.columns) table.old table.new }
+pub fn gains(job: &Job, table: &mut [u8; ALL_SETS])
+    requires { Sound job.now × (table.old ≡ replicate all_sets 0) }
+    ensures told { (j : Meant) → job_of (numbers_in job.now) ≡ Some j → Valued (64 * blocks job.now.columns) (gain j) table.new }
+    ensures stays { Stays (64 * blocks job.now.columns) table.old table.new }
 {
     let count = words::block_count(job.columns);
     let mut met = [0u64; ALL_BLOCKS];

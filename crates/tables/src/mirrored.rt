@@ -54,9 +54,9 @@ fn mirror_marks(marks: &mut [u16], columns: u16)
 }
 
 // The job whose forbidden sets and needs name the columns in the other order. Places without a number are changed too: nothing reads them.
-pub fn mirrored_job(job: Job) -> Job
-    requires { job.columns ≤ 16 }
-    ensures { result ≡ mirrored_job job }
+pub fn mirrored_job(job: &Job) -> Job
+    requires { job.now.columns ≤ 16 }
+    ensures { result ≡ mirrored_job job.now }
 {
     let columns = job.columns;
     let mut forbidden = job.forbidden;

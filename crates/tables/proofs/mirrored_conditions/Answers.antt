@@ -5,14 +5,14 @@ use Rattle.tables.proofs.MirroredJobs.{mirrored_sound, mirrored_told}
 use Rattle.tables.proofs.mirrored_conditions.Goals as goal
 
 pub mirrored_job-turned-requires : goal.mirrored_job-turned-requires
-mirrored_job-turned-requires c = few_columns_lem c.args.job c.requires.0
+mirrored_job-turned-requires c = few_columns_lem c.args.job.now c.requires.0
 
 pub conditions-requires : goal.conditions-requires
-conditions-requires c = rw c.mirrored_job-turned.ensures (mirrored_sound c.args.job c.requires.0, c.requires.1)
+conditions-requires c = rw c.mirrored_job-turned.ensures (mirrored_sound c.args.job.now c.requires.0, c.requires.1)
 
 pub returns-clause-told : goal.returns-clause-told
 returns-clause-told c =
     let call = c.conditions in
     let same = c.mirrored_job-turned.ensures in
     (λ j q.
-    mirrored_told c.args.job j q c.args.chosen (blocks c.args.job.columns) call.new.table (rw same at call.ensures.told))
+    mirrored_told c.args.job.now j q c.args.chosen (blocks c.args.job.now.columns) call.new.table (rw same at call.ensures.told))
