@@ -2,12 +2,12 @@
 use mathlib.Core.Path.{◌≡◌}
 use mathlib.Core.Bool.{true}
 use mathlib.Core.List.{List}
-use Prim.Native.Nat.{ℕ, ◌+◌, ◌^◌, ◌≤◌, ◌<◌}
+use Prim.Native.Nat.{ℕ, ◌+◌, ◌*◌, ◌%◌, ◌^◌, ◌≤◌, ◌<◌}
 use native.Mathlib.Nat.{lt_of_le_of_lt}
 use native.Mathlib.Omega.{arith}
 use lib.ListN.{length, set}
 use lib.Seq.{get_or-set_same, get_or-set_other}
-use lib.Pow.{pow_pos}
+use lib.Pow.{pow_mono, pow_pos}
 use borrow.Author.Count.{below_more}
 use Rattle.rules.specs.Sets.{contains, full}
 use Rattle.rules.proofs.SetBits.{full_within}
@@ -25,10 +25,10 @@ pub filled_none : (gain lean possible : ℕ → ℕ) → Filled gain lean possib
 filled_none gain lean possible = record { leans = λ s l. absurd (omega arith); bound = λ around s l inside. absurd (omega arith) }
 
 -- a set more has its places in both tables
-pub filled_more : (gain : ℕ → ℕ) (lean possible : List ℕ) (columns s gained all : ℕ) → columns ≤ 16 → s < 2 ^ columns → s < length lean
-    → s < length possible → Filled gain (in_table lean) (in_table possible) s → Leans gain s gained → Gathers gain (in_table possible) columns s all
+pub filled_more : (gain : ℕ → ℕ) (lean possible : List ℕ) (s gained all : ℕ) → s < 2 ^ 16 → s < length lean → s < length possible
+    → Filled gain (in_table lean) (in_table possible) s → Leans gain s gained → Gathers gain (in_table possible) 16 s all
     → Filled gain (in_table (set lean s gained)) (in_table (set possible s all)) (s + 1)
-filled_more gain lean possible columns s gained all l b in_lean in_possible filled leaner gathered =
+filled_more gain lean possible s gained all b in_lean in_possible filled leaner gathered =
     record { leans = leans; bound = λ around t m inside. bound around m t inside }
   where
     leans : (t : ℕ) → t < s + 1 → Leans gain t (in_table (set lean s gained) t)
@@ -41,7 +41,11 @@ filled_more gain lean possible columns s gained all l b in_lean in_possible fill
     bound =
         below_more (λ around. (t : ℕ) → Inside around t → contains (in_table (set possible s all) around) (gain t) ≡ true) s
         (λ around m t inside. rw (get_or-set_other possible s around all 0 (λ e. omega arith)) (filled.bound around t m inside))
-        (rw (get_or-set_same possible s all 0 in_possible) (gathers_bound gain (in_table possible) s columns all l b gathered filled.bound))
+        (rw (get_or-set_same possible s all 0 in_possible) (gathers_bound gain (in_table possible) s 16 all (omega arith) b gathered filled.bound))
+
+-- how many sets there are of so many columns, as the code computes it
+pub all_below : (columns : ℕ) → columns ≤ 16 → 1 * 2 ^ columns % 18446744073709551616 ≡ 2 ^ columns
+all_below columns l = omega (arith, pow_mono {i = columns} {j = 16} l)
 
 -- with all sets of the columns filled, both tables are right within the columns
 pub filled_all : (gain lean possible : ℕ → ℕ) (columns : ℕ) → gain 0 ≡ 0 → Filled gain lean possible (2 ^ columns)

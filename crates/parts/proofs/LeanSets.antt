@@ -1,23 +1,23 @@
 -- Sets with a column too many: they gain as much without it, and so in the end does a part of them with none too many. Assumes nothing.
-use mathlib.Core.Path.{◌≡◌, refl, sym, ◌∙◌}
-use mathlib.Core.Bool.{Bool, true, ◌&&◌}
+use mathlib.Core.Path.{◌≡◌, refl, ◌∙◌}
+use mathlib.Core.Bool.{true, ◌&&◌}
 use Prim.Native.Nat.{ℕ, zero, suc, ◌^◌, ◌<◌}
 use native.Mathlib.Omega.{arith}
 use lib.Dec.{eqb}
 use borrow.Author.Tests.{eqb-true}
 use Rattle.rules.specs.Sets.{has, contains, without}
 use Rattle.rules.proofs.Lists.{and_parts}
+use Rattle.rules.proofs.SetBits.{has_below}
 use Rattle.rules.proofs.Sets.{contains_refl, contains_trans, contains_empty, without_below}
 use Rattle.rules.proofs.Differences.{contains_without}
 use Rattle.rules.proofs.SetColumns.{without_less}
 use Rattle.parts.specs.Parts.{Inside, Leans, whole, spared, LeanPart}
 
 -- a set that has a column and gains the same without it may be left out
-pub column_spared : (gain : ℕ → ℕ) (s i : ℕ) (can : Bool) → i < 16 → can ≡ (has i s && eqb (gain (without s (2 ^ i))) (gain s)) → can ≡ true
-    → Leans gain s 0
-column_spared gain s i can l told e =
-    let both = and_parts (has i s) (eqb (gain (without s (2 ^ i))) (gain s)) (sym told ∙ e) in
-    spared i l both.0 (eqb-true (gain (without s (2 ^ i))) (gain s) both.1) refl
+pub column_spared : (gain : ℕ → ℕ) (s i : ℕ) → s < 2 ^ 16 → (has i s && eqb (gain (without s (2 ^ i))) (gain s)) ≡ true → Leans gain s 0
+column_spared gain s i b e =
+    let both = and_parts (has i s) (eqb (gain (without s (2 ^ i))) (gain s)) e in
+    spared i (has_below 16 s i b both.0) both.0 (eqb-true (gain (without s (2 ^ i))) (gain s) both.1) refl
 
 -- what the other table says is never more than the set gains
 pub leans_part : (gain : ℕ → ℕ) (s gained : ℕ) → Leans gain s gained → contains (gain s) gained ≡ true

@@ -1,5 +1,4 @@
 -- `parts::possible_within` meets its contract. Assumes nothing.
-use native.Mathlib.Omega.{arith}
 use Rattle.parts.specs.Parts.{in_table}
 use Rattle.parts.proofs.GatheredParts.{gathers_none, gathers_more}
 use Rattle.parts.proofs.possible_within.Goals as goal
@@ -7,13 +6,10 @@ use Rattle.parts.proofs.possible_within.Goals as goal
 pub loop-column-init : goal.loop-column-init
 loop-column-init c =
     let a = c.args in
-    (omega arith, gathers_none (in_table a.gains.now) (in_table a.possible.now) a.set.bits)
+    gathers_none (in_table a.gains.now) (in_table a.possible.now) a.set.bits
 
 pub loop-column-preserved : goal.loop-column-preserved
 loop-column-preserved c =
     let a = c.args in
     let l = c.loop-column in
-    let part = c.without_column-part in (
-      omega arith,
-      rw part.ensures (gathers_more (in_table a.gains.now) (in_table a.possible.now) a.set.bits l.column l.all l.invariant.1),
-    )
+    rw c.without_column.ensures (gathers_more (in_table a.gains.now) (in_table a.possible.now) a.set.bits l.column l.all l.invariant)
