@@ -9,6 +9,8 @@ use lib.Seq.{length-take-le, take-append_seam, take-suc, take_all}
 use Rattle.rules.specs.Lists.{written}
 use Rattle.rules.proofs.Written.{length_written, written_last, written_full, written_back}
 use Rattle.writing.specs.Added.{Holds, Adds}
+use Rattle.writing.specs.Puts.{Puts}
+use Rattle.writing.specs.declared.Page.{Page}
 
 -- a page holds an empty text before its first place
 holds_nothing : (page : List ℕ) → Holds [] page 0 page
@@ -64,10 +66,14 @@ adds_no_byte sign next page full text old h =
 -- the first i bytes are added, and then the next
 pub adds_next : (words : List ℕ) (i next middle last : ℕ) (page between new : List ℕ) → i < length words → Adds (take i words) next page middle between
     → Adds (get_or words i 0 ∷ []) middle between last new → Adds (take (i + 1) words) next page last new
-adds_next words i next middle last page between new h a b =
-    rw (add-one, take-suc words i 0 h) (adds_both a b)
+adds_next words i next middle last page between new h a b = rw (add-one, take-suc words i 0 h) (adds_both a b)
 
 -- the first i bytes are all bytes
 pub adds_all : (words : List ℕ) (i next last : ℕ) (page new : List ℕ) → length words ≤ i → Adds (take i words) next page last new
     → Adds words next page last new
 adds_all words i next last page new h a = rw (take_all i words h) at a
+
+-- so of a lent page that holds its next place
+pub puts_both : {first second : List ℕ} {before between after : Page} → Puts first before between → Puts second between after
+    → Puts (first ++ second) before after
+puts_both a b = record { same_reference = b.same_reference ∙ a.same_reference; adds = adds_both a.adds b.adds }

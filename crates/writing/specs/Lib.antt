@@ -1,2 +1,3 @@
 -- What the contracts of writing cite besides the rules.
 pub mod Added
+pub mod Puts
