@@ -3,6 +3,7 @@
 use mathlib.Core.Path.{◌≡◌, refl, sym, ap, subst, ◌∙◌}
 use mathlib.Core.Bool.{true}
 use mathlib.Core.List.{List, [], ◌∷◌, ◌++◌}
+use Rattle.rules.specs.Options.{Option, Some}
 use Prim.Native.Nat.{ℕ, zero, suc, ◌-◌, ◌<◌}
 use native.Mathlib.Omega.{arith}
 use lib.Dec.{lit<}
@@ -11,10 +12,8 @@ use Rattle.rules.specs.Signs.{line_end, bracket_close}
 use Rattle.naming.specs.Sections.{key_of, width_of}
 use Rattle.naming.specs.declared.sections.Section.{Section}
 use Rattle.naming.specs.declared.sections.Section.TheVariants.{Columns, Forbid, Need, End}
-use Rattle.form.specs.declared.order.Behind.{Behind}
-use Rattle.form.specs.declared.order.Behind.TheVariants.{Line}
 use Rattle.form.specs.declared.machine.Digits.{Digits}
-use Rattle.form.specs.declared.machine.Digits.TheVariants.{None, Zero, Other, Two}
+use Rattle.form.specs.declared.machine.Digits.TheVariants.{Nothing, Zero, Other, Two}
 use Rattle.form.specs.declared.machine.State.{State}
 use Rattle.form.specs.declared.machine.State.TheVariants.{Key, Name, Closed, Number, Done, Wrong}
 use Rattle.form.specs.Order.{follows, likely}
@@ -35,7 +34,7 @@ byte_more b state c = (b ∷ c.0, c.1)
 
 -- ---- keys
 
-module _ (behind : Behind) (section : Section) (may : follows behind section ≡ true) where
+module _ (behind : Option Section) (section : Section) (may : follows behind section ≡ true) where
   complete_key : (other : Section) (k : ℕ) → SameTo other section k → k < width_of section → CanEnd (value_of section) → CanEnd (Key other behind k)
   complete_key other k same h value =
       let key = key_of section in (
@@ -49,20 +48,20 @@ module _ (behind : Behind) (section : Section) (may : follows behind section ≡
 
 complete_number : (digits : Digits) → CanEnd (Number digits)
 unfolding run
-complete_number None = (48 ∷ line_end ∷ [], refl)
+complete_number Nothing = (48 ∷ line_end ∷ [], refl)
 complete_number Zero = (line_end ∷ [], refl)
 complete_number Other = (line_end ∷ [], refl)
 complete_number Two = (line_end ∷ [], refl)
 
 -- the end line follows
-complete_line : (section : Section) → follows (Line section) End ≡ true → CanEnd (new_line section)
-complete_line section ends = complete_key (Line section) End ends (likely section) 0 (λ i h. absurd (omega arith)) (lit< tt) (complete_number None)
+complete_line : (section : Section) → follows (Some section) End ≡ true → CanEnd (new_line section)
+complete_line section ends = complete_key (Some section) End ends (likely section) 0 (λ i h. absurd (omega arith)) (lit< tt) (complete_number Nothing)
 
 complete_closed : (opened : ℕ) → CanEnd (Closed opened)
 complete_closed zero = byte_more line_end (Closed zero) (complete_line Need refl)
 complete_closed (suc opened) = byte_more bracket_close (Closed (suc opened)) (complete_closed opened)
 
-module _ (section : Section) (ends : follows (Line section) End ≡ true) where
+module _ (section : Section) (ends : follows (Some section) End ≡ true) where
   complete_named : (n opened : ℕ) → CanEnd (Name section (suc n) opened)
   complete_named n zero = byte_more line_end (Name section (suc n) zero) (subst CanEnd (sym (line_over section)) (complete_line section ends))
   complete_named n (suc opened) =
@@ -76,7 +75,7 @@ complete_value : (section : Section) → CanEnd (value_of section)
 complete_value Columns = complete_name Columns refl 0 0
 complete_value Forbid = complete_name Forbid refl 0 0
 complete_value Need = complete_name Need refl 0 0
-complete_value End = complete_number None
+complete_value End = complete_number Nothing
 
 -- ---- the states
 

@@ -36,7 +36,7 @@ module _ (s : List ℕ) where
     where
       go : (state ≡ Done) ⊎ (state ≡ Done → ⊥) → HasForm s ⊎ ((p : ℕ) × StopsAt s p)
       go (inl done) = inl (followed_whole s f (omega arith) done)
-      go (inr short) = inr (i, followed_short s f (omega arith) short)
+      go (inr short) = inr (length s, followed_short s f (omega arith) short)
   decided_from (suc left) i state f e = go (wrong_or_not (step state (byte_at s i))) (decided_from left (i + 1) (step state (byte_at s i)))
     where
       go : (step state (byte_at s i) ≡ Wrong) ⊎ (step state (byte_at s i) ≡ Wrong → ⊥)

@@ -1,20 +1,18 @@
 -- Laws of the keys of lines, and of keys that begin alike. Assumes nothing.
 use mathlib.Core.Path.{◌≡◌, refl, sym, ap, ◌∙◌}
 use mathlib.Core.Logic.{◌⊎◌, inl, inr}
-use mathlib.Core.Bool.{Bool, true, false, cond, ◌&&◌, true≢false}
+use mathlib.Core.Bool.{Bool, true, false, cond, ◌&&◌, true≢false, false≢true}
 use mathlib.Core.List.{List, [], ◌∷◌, Memᴰ}
-use Prim.Native.Nat.{ℕ, zero, suc, ◌+◌, ◌-◌, ◌<◌, ◌≤◌}
+use Rattle.rules.proofs.Options.{Option, None, Some, some-injective, none-ne-some, some-ne-none}
+use Rattle.std.specs.List.{find}
+use Prim.Native.Nat.{ℕ, suc, ◌+◌, ◌<◌, ◌≤◌}
 use native.Mathlib.Numerals.{add-one}
-use native.Mathlib.Omega.{arith}
 use lib.Dec.{eqb}
-use lib.ListN.{length, get_or, drop}
-use lib.Seq.{drop-cons}
-use borrow.Author.Tests.{lt-ltb, le-ltb, eqb-true, eq-eqb, ne_eqb}
+use borrow.Author.Tests.{lt-ltb, le-ltb, eqb-true, eq-eqb}
 use Rattle.rules.specs.Signs.{byte_at}
 use Rattle.rules.proofs.Lists.{not_holds, and_parts, and_both}
 use Rattle.naming.specs.Sections.{key_of, width_of, sections, alike}
 use Rattle.naming.specs.declared.sections.Section.{Section}
-use Rattle.form.specs.declared.order.Behind.{Behind}
 use Rattle.form.specs.declared.machine.State.{State}
 use Rattle.form.specs.declared.machine.State.TheVariants.{Key, Wrong}
 use Rattle.form.specs.Order.{follows}
@@ -24,24 +22,14 @@ use Rattle.naming.proofs.KeysApart.{SameTo, alike_same, same_alike}
 
 -- ---- keys that begin alike
 
--- the last of some bytes is the same, or none of the others matters
-pub alike_on : (a b : Section) (i : ℕ) → 0 < i → byte_at (key_of a) (i - 1) ≡ byte_at (key_of b) (i - 1) → alike a b i ≡ alike a b (i - 1)
-unfolding alike
-alike_on a b zero h e = absurd (omega arith)
-alike_on a b (suc i) h e =
-    let last : suc i - 1 ≡ i = omega arith in
-    rw (last, eq-eqb (byte_at (key_of a) i) (byte_at (key_of b) i) (rw last at e))
-
-pub alike_stops : (a b : Section) (i : ℕ) → 0 < i → (byte_at (key_of a) (i - 1) ≡ byte_at (key_of b) (i - 1) → ⊥) → alike a b i ≡ false
-unfolding alike
-alike_stops a b zero h n = absurd (omega arith)
-alike_stops a b (suc i) h n =
-    let last : i ≡ suc i - 1 = omega arith in
-    rw (ne_eqb (byte_at (key_of a) i) (byte_at (key_of b) i) (λ e. n (rw last at e)))
+-- an answer that says whether they are is the test's
+pub alike_told : (a b : Section) (k : ℕ) (t : Bool) → (t ≡ true → SameTo a b k) → (SameTo a b k → t ≡ true) → t ≡ alike a b k
+alike_told a b k true there back = sym (same_alike a b k (there refl))
+alike_told a b k false there back = sym (not_holds (alike a b k) (λ e. false≢true (back (alike_same a b k e))))
 
 -- ---- one byte more
 
-module _ (behind : Behind) (section : Section) (k b : ℕ) where
+module _ (behind : Option Section) (section : Section) (k b : ℕ) where
   -- what it means that a key goes on
   pub record GoesOn (other : Section) : Type 0 where
     pub byte : byte_at (key_of other) k ≡ b
@@ -93,16 +81,30 @@ module _ (behind : Behind) (section : Section) (k b : ℕ) where
       go false e (Memᴰ.tail m) more = more m
   first_found other {others = []} g m = elim m [ ]
 
-  -- the one at place i goes on, or the first is to be found behind it
-  module _ (others : List Section) (i : ℕ) (last other : Section) (h : i < length others) (is : other ≡ get_or others i last) where
-    pub first_here : goes_on behind section k b other ≡ true → first_on behind section k b (drop i others) ≡ onward behind other (k + 1)
-    unfolding first_on
-    first_here e = rw (drop-cons others i last h, ← is, e, add-one k)
+  -- the byte is one of the first key that goes on, if there is one
+  pub first_some : (others : List Section) (other : Section) → find (goes_on behind section k b) others ≡ Some other
+      → first_on behind section k b others ≡ onward behind other (k + 1)
+  unfolding first_on
+  first_some [] other e = absurd (none-ne-some other e)
+  first_some (one ∷ others) other e = go (goes_on behind section k b one) e (first_some others other)
+    where
+      go : (test : Bool) → cond test (Some one) (find (goes_on behind section k b) others) ≡ Some other
+          → (find (goes_on behind section k b) others ≡ Some other → first_on behind section k b others ≡ onward behind other (k + 1))
+          → cond test (onward behind one (suc k)) (first_on behind section k b others) ≡ onward behind other (k + 1)
+      go true e more = rw (some-injective one other e, add-one k)
+      go false e more = more e
 
-    pub first_next : goes_on behind section k b other ≡ false
-        → first_on behind section k b (drop i others) ≡ first_on behind section k b (drop (i + 1) others)
-    unfolding first_on
-    first_next e = rw (drop-cons others i last h, ← is, e, add-one i)
+  -- and else it is wrong
+  pub first_none : (others : List Section) → find (goes_on behind section k b) others ≡ None → first_on behind section k b others ≡ Wrong
+  unfolding first_on
+  first_none [] e = refl
+  first_none (one ∷ others) e = go (goes_on behind section k b one) e (first_none others)
+    where
+      go : (test : Bool) → cond test (Some one) (find (goes_on behind section k b) others) ≡ None
+          → (find (goes_on behind section k b) others ≡ None → first_on behind section k b others ≡ Wrong)
+          → cond test (onward behind one (suc k)) (first_on behind section k b others) ≡ Wrong
+      go true e more = absurd (some-ne-none one e)
+      go false e more = more e
 
   -- the section's own key goes on where the byte is its next one, and else another may
   pub own_on : follows behind section ≡ true → b ≡ byte_at (key_of section) k → in_key behind section k b ≡ onward behind section (k + 1)
@@ -114,8 +116,8 @@ module _ (behind : Behind) (section : Section) (k b : ℕ) where
   other_on n = rw (not_holds (goes_on behind section k b section) (λ e. n (sym (goes_parts section e).byte)))
 
 -- fewer bytes of a key stand than it has, or all
-pub onward_key : (behind : Behind) (section : Section) (k : ℕ) → k < width_of section → onward behind section k ≡ Key section behind k
+pub onward_key : (behind : Option Section) (section : Section) (k : ℕ) → k < width_of section → onward behind section k ≡ Key section behind k
 onward_key behind section k h = rw (lt-ltb k (width_of section) h)
 
-pub onward_value : (behind : Behind) (section : Section) (k : ℕ) → width_of section ≤ k → onward behind section k ≡ value_of section
+pub onward_value : (behind : Option Section) (section : Section) (k : ℕ) → width_of section ≤ k → onward behind section k ≡ value_of section
 onward_value behind section k h = rw (le-ltb k (width_of section) h)

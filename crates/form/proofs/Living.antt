@@ -3,13 +3,13 @@ use mathlib.Core.Path.{◌≡◌, refl, sym, ap, ◌∙◌}
 use mathlib.Core.Logic.{◌⊎◌, inl, inr}
 use mathlib.Core.Bool.{Bool, true, false, cond}
 use mathlib.Core.List.{List}
+use Rattle.rules.specs.Options.{Option}
 use Prim.Native.Nat.{ℕ, ◌+◌, ◌<◌, ◌≤◌}
 use native.Mathlib.Nat.{lt_of_not-le}
 use native.Mathlib.Omega.{arith}
 use lib.ListN.{length}
 use Rattle.rules.specs.Signs.{byte_at}
 use Rattle.naming.specs.declared.sections.Section.{Section}
-use Rattle.form.specs.declared.order.Behind.{Behind}
 use Rattle.form.specs.declared.machine.Digits.{Digits}
 use Rattle.form.specs.declared.machine.State.{State}
 use Rattle.form.specs.declared.machine.State.TheVariants.{Key, Name, Closed, Number, Done, Wrong}
@@ -26,7 +26,7 @@ decided true = inl refl
 decided false = inr refl
 
 -- the last state is none of the others
-pub not_key : {section : Section} {behind : Behind} {k : ℕ} → Key section behind k ≡ Done → ⊥
+pub not_key : {section : Section} {behind : Option Section} {k : ℕ} → Key section behind k ≡ Done → ⊥
 not_key e = let z : ◌≡◌ {A = ℕ} 0 1 = cc in omega arith
 
 pub not_name : {section : Section} {n opened : ℕ} → Name section n opened ≡ Done → ⊥

@@ -78,10 +78,10 @@ module _ (s : List ℕ) where
   followed_whole {i} f h e = done_form (record { done = sym (state_all s i h) ∙ sym f.at ∙ e })
 
   -- a text that leads to another state ends too early
-  pub followed_short : {state : State} {i : ℕ} → Followed state i → length s ≤ i → (state ≡ Done → ⊥) → StopsAt s i
+  pub followed_short : {state : State} {i : ℕ} → Followed state i → length s ≤ i → (state ≡ Done → ⊥) → StopsAt s (length s)
   followed_short {i} f h short = record {
-    within = f.up_to;
-    before = λ j g. can_go_on j (λ w. f.right (f.at ∙ stays_wrong s j i g w));
+    within = omega arith;
+    before = λ j g. can_go_on j (λ w. f.right (f.at ∙ stays_wrong s j i (omega arith) w));
     after = λ g. absurd (omega arith);
     other_form = λ formed. short (f.at ∙ state_all s i h ∙ form_done s formed);
   }

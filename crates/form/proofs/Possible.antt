@@ -3,6 +3,7 @@ use mathlib.Core.Path.{◌≡◌, refl}
 use mathlib.Core.Logic.{⊎_elim}
 use mathlib.Core.Bool.{Bool, true, false, cond}
 use mathlib.Core.List.{List, [], ◌∷◌}
+use Rattle.rules.specs.Options.{Option, Some}
 use Prim.Native.Nat.{ℕ, zero, suc}
 use native.Mathlib.Omega.{arith}
 use lib.Dec.{ltb, eqb, lit<}
@@ -15,10 +16,8 @@ use Rattle.naming.specs.Sections.{width_of}
 use Rattle.naming.specs.declared.sections.Section.{Section}
 use Rattle.naming.specs.declared.sections.Section.TheVariants.{Columns, Forbid, Need, End}
 use Rattle.naming.proofs.KeyPlaces.{width_bounds}
-use Rattle.form.specs.declared.order.Behind.{Behind}
-use Rattle.form.specs.declared.order.Behind.TheVariants.{Line}
 use Rattle.form.specs.declared.machine.Digits.{Digits}
-use Rattle.form.specs.declared.machine.Digits.TheVariants.{None, Zero, Other, Two}
+use Rattle.form.specs.declared.machine.Digits.TheVariants.{Nothing, Zero, Other, Two}
 use Rattle.form.specs.declared.machine.State.{State}
 use Rattle.form.specs.declared.machine.State.TheVariants.{Key, Name, Closed, Number, Done, Wrong}
 use Rattle.naming.specs.Sections.{sections}
@@ -41,11 +40,11 @@ possible_value Forbid = refl
 possible_value Need = refl
 possible_value End = tt
 
-possible_onward : (behind : Behind) (section : Section) (k : ℕ) → follows behind section ≡ true → Possible (onward behind section k)
+possible_onward : (behind : Option Section) (section : Section) (k : ℕ) → follows behind section ≡ true → Possible (onward behind section k)
 possible_onward behind section k may =
     possible_cond (ltb k (width_of section)) _ _ (λ e. (may, ltb-true k (width_of section) e)) (possible_value section)
 
-possible_key : (behind : Behind) (section : Section) (k b : ℕ) → Possible (step (Key section behind k) b)
+possible_key : (behind : Option Section) (section : Section) (k b : ℕ) → Possible (step (Key section behind k) b)
 possible_key behind section k b =
     ⊎_elim (λ goes. rw goes.2 (possible_onward behind goes.0 (suc k) goes.1.may)) (λ wrong. rw wrong tt)
     (first_on_lem behind section k b (section ∷ sections))
@@ -57,7 +56,7 @@ possible_closing zero = tt
 possible_closing (suc opened) = tt
 
 -- in a line that the end line may follow
-module _ (section : Section) (ends : follows (Line section) End ≡ true) where
+module _ (section : Section) (ends : follows (Some section) End ≡ true) where
   possible_item : (opened b : ℕ) → Possible (at_item section opened b)
   possible_item opened b =
       possible_cond (letter b) _ _ (λ e. ends)
@@ -80,13 +79,13 @@ module _ (section : Section) (ends : follows (Line section) End ≡ true) where
       possible_cond (in_name b) _ _ (λ e. possible_cond (ltb (suc n) most_name_bytes) _ _ (λ e. ends) tt) (possible_behind opened b)
 
 possible_digit : (digits : Digits) (b : ℕ) → Possible (on_digit digits b)
-possible_digit None b = possible_cond (eqb b 48) _ _ (λ e. tt) tt
+possible_digit Nothing b = possible_cond (eqb b 48) _ _ (λ e. tt) tt
 possible_digit Zero b = tt
 possible_digit Other b = tt
 possible_digit Two b = tt
 
 possible_number_ending : (digits : Digits) → Possible (number_ending digits)
-possible_number_ending None = tt
+possible_number_ending Nothing = tt
 possible_number_ending Zero = tt
 possible_number_ending Other = tt
 possible_number_ending Two = tt

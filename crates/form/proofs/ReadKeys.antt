@@ -3,6 +3,7 @@ use mathlib.Core.Path.{◌≡◌, sym, subst, ◌∙◌}
 use mathlib.Core.Logic.{⊎_elim}
 use mathlib.Core.Bool.{true}
 use mathlib.Core.List.{List, ◌∷◌}
+use Rattle.rules.specs.Options.{Option}
 use Prim.Native.Nat.{ℕ, zero, suc, ◌+◌, ◌<◌}
 use native.Mathlib.Numerals.{add-one}
 use native.Mathlib.Omega.{arith}
@@ -13,7 +14,6 @@ use borrow.Author.Tests.{ltb-false}
 use Rattle.rules.specs.Signs.{byte_at, Says}
 use Rattle.naming.specs.Sections.{key_of, width_of}
 use Rattle.naming.specs.declared.sections.Section.{Section}
-use Rattle.form.specs.declared.order.Behind.{Behind}
 use Rattle.form.specs.declared.machine.State.TheVariants.{Key}
 use Rattle.naming.specs.Sections.{sections}
 use Rattle.form.specs.Order.{follows}
@@ -24,13 +24,13 @@ use Rattle.form.proofs.Possible.{possible_at}
 use Rattle.form.proofs.Living.{LeadsToEnd, not_key, alive, within, goes, forks}
 
 -- a key that may stand behind this stands from place p on, and leads to its value
-pub record KeyFrom (s : List ℕ) (behind : Behind) (p : ℕ) : Type 0 where
+pub record KeyFrom (s : List ℕ) (behind : Option Section) (p : ℕ) : Type 0 where
   pub section : Section
   pub may : follows behind section ≡ true
   pub said : Says s p (key_of section)
   pub value : state_at s (p + width_of section) ≡ value_of section
 
-module _ {s : List ℕ} (led : LeadsToEnd s) (behind : Behind) (p : ℕ) where
+module _ {s : List ℕ} (led : LeadsToEnd s) (behind : Option Section) (p : ℕ) where
   -- the next byte is one of a key
   key_goes : (section : Section) (k : ℕ) → state_at s (p + k) ≡ Key section behind k → Goes behind section k (byte_at s (p + k)) (state_at s (p + k + 1))
   key_goes section k e =

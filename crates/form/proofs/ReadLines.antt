@@ -3,6 +3,7 @@ use mathlib.Core.Path.{◌≡◌, sym, ap, subst, ◌∙◌}
 use mathlib.Core.Logic.{◌⊎◌, inl, inr, ⊎_elim}
 use mathlib.Core.Bool.{true, cond}
 use mathlib.Core.List.{List, [], ◌∷◌}
+use Rattle.rules.specs.Options.{Some}
 use Prim.Native.Nat.{ℕ, zero, suc, ◌+◌, ◌<◌, ◌≤◌}
 use native.Mathlib.Omega.{arith}
 use lib.Dec.{eqb}
@@ -13,9 +14,8 @@ use Rattle.rules.specs.Texts.{Line, line, Lines, no_line, one_line, Number as Nu
 use Rattle.naming.specs.Sections.{key_of, width_of}
 use Rattle.naming.specs.declared.sections.Section.{Section}
 use Rattle.naming.proofs.KeyPlaces.{key_inside}
-use Rattle.form.specs.declared.order.Behind.TheVariants.{Line as BehindLine}
 use Rattle.form.specs.declared.machine.Digits.{Digits}
-use Rattle.form.specs.declared.machine.Digits.TheVariants.{None, Zero, Other, Two}
+use Rattle.form.specs.declared.machine.Digits.TheVariants.{Nothing, Zero, Other, Two}
 use Rattle.form.specs.declared.machine.State.TheVariants.{Name, Number, Done}
 use Rattle.form.specs.Order.{likely}
 use Rattle.form.specs.Machine.{on_digit, number_ending, value_of, new_line, state_at}
@@ -48,7 +48,7 @@ module _ {s : List ℕ} (led : LeadsToEnd s) where
   -- behind a line of a section begins one of it or of a later one
   next_line : (before : Section) (p : ℕ) → state_at s p ≡ new_line before → LineFrom s (order before) p
   next_line before p e =
-      let key = read_key led (BehindLine before) p (likely before) e in
+      let key = read_key led (Some before) p (likely before) e in
       record { section = key.section; late = in_order before key.section key.may; said = key.said; value = key.value }
 
   module _ {A : Type 0} (section : Section) (Value : ℕ → ℕ → A → Type 0) (valued : value_of section ≡ Name section 0 0)
@@ -131,9 +131,9 @@ module _ {s : List ℕ} (led : LeadsToEnd s) where
       (forks led (p + 1) (eqb b 48) _ _ e)
 
   -- the number can be read behind its key
-  pub read_number : (p : ℕ) → state_at s p ≡ Number None → NumberFrom s p
+  pub read_number : (p : ℕ) → state_at s p ≡ Number Nothing → NumberFrom s p
   read_number p e =
       ⊎_elim
       (λ ended. absurd (alive led (p + 1) ended.1))
       (λ on. first_digit p on.0 on.1)
-      (number_step p None e)
+      (number_step p Nothing e)

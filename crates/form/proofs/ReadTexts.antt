@@ -1,6 +1,7 @@
 -- From the machine to the form: a text that leads to the end is of the form. Assumes nothing.
 use mathlib.Core.Path.{◌≡◌, refl, ap, subst, ◌∙◌}
 use mathlib.Core.List.{List}
+use Rattle.rules.specs.Options.{None, Some}
 use Prim.Native.Nat.{ℕ, ◌+◌, ◌<◌}
 use native.Mathlib.Omega.{arith}
 use lib.ListN.{length}
@@ -12,7 +13,6 @@ use Rattle.rules.proofs.Signs.{inside}
 use Rattle.naming.specs.Sections.{key_of, width_of}
 use Rattle.naming.specs.declared.sections.Section.{Section}
 use Rattle.naming.specs.declared.sections.Section.TheVariants.{Columns, Forbid, Need, End}
-use Rattle.form.specs.declared.order.Behind.TheVariants.{Nothing, Line}
 use Rattle.form.specs.declared.machine.State.{State}
 use Rattle.form.specs.declared.machine.State.TheVariants.{Name, Done}
 use Rattle.form.specs.Order.{likely}
@@ -31,7 +31,7 @@ module _ {s : List ℕ} (led : LeadsToEnd s) where
   read_columns : Says s 0 (key_of Columns) × ValueFrom s Columns (Names s comma) (width_of Columns)
   unfolding run
   read_columns =
-      let key = read_key led Nothing 0 Columns refl in
+      let key = read_key led None 0 Columns refl in
       let same = columns_first key.section key.may in
       let at : state_at s (width_of Columns) ≡ Name Columns 0 0 = subst (λ (x : Section). state_at s (0 + width_of x) ≡ value_of x) same key.value in (
         subst (λ (x : Section). Says s 0 (key_of x)) same key.said,
@@ -41,7 +41,7 @@ module _ {s : List ℕ} (led : LeadsToEnd s) where
   -- another line follows it
   behind_columns : (p : ℕ) → state_at s p ≡ new_line Columns → LineFrom s (order Forbid) p
   behind_columns p e =
-      let key = read_key led (Line Columns) p (likely Columns) e in
+      let key = read_key led (Some Columns) p (likely Columns) e in
       record { section = key.section; late = columns_once key.section key.may; said = key.said; value = key.value }
 
   read_forbid : (p : ℕ) → state_at s p ≡ Name Forbid 0 0 → ValueFrom s Forbid (Names s plus) p

@@ -2,6 +2,7 @@
 use mathlib.Core.Path.{◌≡◌, refl, sym, ap, ◌∙◌}
 use mathlib.Core.Bool.{true}
 use mathlib.Core.List.Memᴰ
+use Rattle.rules.specs.Options.{Option}
 use Prim.Native.Nat.{ℕ, zero, suc, ◌+◌}
 use native.Mathlib.Numerals.{add-one}
 use native.Mathlib.Omega.{arith}
@@ -11,7 +12,6 @@ use borrow.Author.Count.{below_more}
 use Rattle.rules.specs.Signs.{byte_at}
 use Rattle.naming.specs.Sections.{key_of, width_of}
 use Rattle.naming.specs.declared.sections.Section.{Section}
-use Rattle.form.specs.declared.order.Behind.{Behind}
 use Rattle.form.specs.declared.machine.State.{State}
 use Rattle.form.specs.declared.machine.State.TheVariants.{Key}
 use Rattle.form.specs.Order.{follows}
@@ -21,7 +21,7 @@ use Rattle.naming.proofs.KeysApart.{SameTo, apart, inside_both}
 use Rattle.form.proofs.KeyLaws.{Goes, first_found, onward_key, onward_value}
 
 -- a section that may stand behind this
-module _ (behind : Behind) (section : Section) (may : follows behind section ≡ true) where
+module _ (behind : Option Section) (section : Section) (may : follows behind section ≡ true) where
   -- where k bytes of its key stand, the next one is that of a key that goes on alike
   step_key : (other : Section) (k : ℕ) → SameTo other section k
       → (one : Section) × SameTo one section (suc k) × (step (Key other behind k) (byte_at (key_of section) k) ≡ onward behind one (suc k))

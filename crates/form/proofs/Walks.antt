@@ -2,6 +2,7 @@
 use mathlib.Core.Path.{◌≡◌, refl, sym, ap, subst, ◌∙◌}
 use mathlib.Core.Bool.{Bool, true, false, cond}
 use mathlib.Core.List.{List}
+use Rattle.rules.specs.Options.{Option, None, Some}
 use Prim.Native.Nat.{ℕ, zero, suc, ◌+◌, ◌-◌, ◌<◌, ◌≤◌}
 use native.Mathlib.Omega.{arith}
 use lib.Dec.{ltb, eqb, lit<, lit≤}
@@ -18,10 +19,8 @@ use Rattle.naming.specs.Sections.{key_of, width_of}
 use Rattle.naming.specs.declared.sections.Section.{Section}
 use Rattle.naming.specs.declared.sections.Section.TheVariants.{Columns, Forbid, Need, End}
 use Rattle.naming.proofs.KeyPlaces.{width_bounds}
-use Rattle.form.specs.declared.order.Behind.{Behind}
-use Rattle.form.specs.declared.order.Behind.TheVariants.{Nothing, Line as BehindLine}
 use Rattle.form.specs.declared.machine.Digits.{Digits}
-use Rattle.form.specs.declared.machine.Digits.TheVariants.{None, Zero, Other, Two}
+use Rattle.form.specs.declared.machine.Digits.TheVariants.{Nothing, Zero, Other, Two}
 use Rattle.form.specs.declared.machine.State.{State}
 use Rattle.form.specs.declared.machine.State.TheVariants.{Key, Name, Closed, Number, Done, Wrong}
 use Rattle.form.specs.Order.{follows, likely}
@@ -40,7 +39,7 @@ module _ (s : List ℕ) where
   -- ---- keys
 
   -- a key that may stand behind this leads to its value
-  key_walk : (behind : Behind) (section : Section) (p : ℕ) → follows behind section ≡ true → Says s p (key_of section)
+  key_walk : (behind : Option Section) (section : Section) (p : ℕ) → follows behind section ≡ true → Says s p (key_of section)
       → (other : Section) → state_at s p ≡ Key other behind 0 → state_at s (p + width_of section) ≡ value_of section
   key_walk behind section p may said other e =
       let some = width_bounds section in
@@ -134,15 +133,15 @@ module _ (s : List ℕ) where
 
   -- lines of a section that may follow itself
   module _ {A : Type 0} (section : Section) (Value : ℕ → ℕ → A → Type 0) (valued : value_of section ≡ Name section 0 0)
-      (again : follows (BehindLine section) section ≡ true)
+      (again : follows (Some section) section ≡ true)
       (value-walk : (p q : ℕ) (a : A) → Value p q a → state_at s p ≡ Name section 0 0 → Passed section 0 q) where
-    may_come : (before : Section) → order before < suc (order section) → follows (BehindLine before) section ≡ true
+    may_come : (before : Section) → order before < suc (order section) → follows (Some before) section ≡ true
     may_come before h = go (eqb (order before) (order section)) refl
       where
-        go : (test : Bool) → eqb (order before) (order section) ≡ test → follows (BehindLine before) section ≡ true
+        go : (test : Bool) → eqb (order before) (order section) ≡ test → follows (Some before) section ≡ true
         go true e =
             let same : section ≡ before = sym (same_order (eqb-true (order before) (order section) e)) in
-            subst (λ (x : Section). follows (BehindLine x) section ≡ true) same again
+            subst (λ (x : Section). follows (Some x) section ≡ true) same again
         go false e = let other = eqb-false (order before) (order section) e in later_may before section (omega arith)
 
     lines_walk : {p q : ℕ} {lines : List (Line A)} → Lines s (key_of section) Value p q lines → LineAt (suc (order section)) p
@@ -150,7 +149,7 @@ module _ (s : List ℕ) where
     lines_walk (no_line none) here = here
     lines_walk (one_line {p} {r} {q} {a} said value ended more) here =
         let before = here.before in
-        let value_at = key_walk (BehindLine before) section p (may_come before here.early) said (likely before) here.at ∙ valued in
+        let value_at = key_walk (Some before) section p (may_come before here.early) said (likely before) here.at ∙ valued in
         let passed = value-walk (p + width_of section) r a value value_at in
         lines_walk more
         (record { before = section; early = omega arith; at = behind_by section 0 r line_end passed ended (lit< tt) ∙ line_over section })
@@ -165,15 +164,15 @@ module _ (s : List ℕ) where
       ∙ cond_fails (eqb b line_end) (number_ending digits) _ (ne_eqb b line_end (digit_not b line_end refl d))
       ∙ cond_holds (digit b) _ Wrong d
 
-  number_walk : {p q v : ℕ} → NumberAt s p q v → state_at s p ≡ Number None → byte_at s q ≡ line_end → state_at s (q + 1) ≡ Done
-  number_walk (one_digit {p} d) e ended = go (eqb (byte_at s p) 48) (digit_walk p None d e)
+  number_walk : {p q v : ℕ} → NumberAt s p q v → state_at s p ≡ Number Nothing → byte_at s q ≡ line_end → state_at s (q + 1) ≡ Done
+  number_walk (one_digit {p} d) e ended = go (eqb (byte_at s p) 48) (digit_walk p Nothing d e)
     where
       go : (zeroth : Bool) → state_at s (p + 1) ≡ cond zeroth (Number Zero) (Number Other) → state_at s (p + 1 + 1) ≡ Done
       go true f = state_by s (p + 1) line_end (Number Zero) f ended (lit< tt)
       go false f = state_by s (p + 1) line_end (Number Other) f ended (lit< tt)
   number_walk (two_digits {p} d n d') e ended =
       let one : state_at s (p + 1) ≡ Number Other =
-      digit_walk p None d e ∙ cond_fails (eqb (byte_at s p) 48) (Number Zero) (Number Other) (ne_eqb (byte_at s p) 48 n) in
+      digit_walk p Nothing d e ∙ cond_fails (eqb (byte_at s p) 48) (Number Zero) (Number Other) (ne_eqb (byte_at s p) 48 n) in
       let two : state_at s (p + 1 + 1) ≡ Number Two = digit_walk (p + 1) Other d' one in
       let place : p + 1 + 1 ≡ p + 2 = omega arith in
       state_by s (p + 2) line_end (Number Two) (subst (λ (q : ℕ). state_at s q ≡ Number Two) place two) ended (lit< tt)
@@ -184,7 +183,7 @@ module _ (s : List ℕ) where
   pub form_done : HasForm s → run begin s ≡ Done
   unfolding run
   form_done (sheet, t) =
-      let columns : state_at s (width_of Columns) ≡ Name Columns 0 0 = key_walk Nothing Columns 0 refl t.columns_said Columns refl in
+      let columns : state_at s (width_of Columns) ≡ Name Columns 0 0 = key_walk None Columns 0 refl t.columns_said Columns refl in
       let columns_end = names_walk Columns comma refl (lit< tt) t.columns columns in
       let first_line : LineAt 2 (t.columns_to + 1) = record {
         before = Columns;
@@ -196,7 +195,7 @@ module _ (s : List ℕ) where
       let needs = lines_walk Need (Stands s (list ors) most_brackets) refl refl (λ p q v stands e. stands_walk 0 (lit≤ tt) stands e)
       t.needs (record { before = forbids.before; early = omega (arith, forbids.early); at = forbids.at }) in
       let may = later_may needs.before End needs.early in
-      let number = key_walk (BehindLine needs.before) End t.end_from may t.end_said (likely needs.before) needs.at in
+      let number = key_walk (Some needs.before) End t.end_from may t.end_said (likely needs.before) needs.at in
       let done = number_walk t.number number t.number_end in
       let whole = t.whole in
       sym (state_all s (t.number_to + 1) (omega arith)) ∙ done

@@ -1,17 +1,15 @@
 -- The machine that takes a text byte by byte: which state follows a state and a byte. The contracts of the machine cite it; that of form speaks of
 -- the form alone.
 use Prim.{Unit}
-use Rattle.std.specs.Prelude.{◌≡◌, Bool, true, false, cond, ◌||◌, List, [], ◌∷◌, ℕ, zero, suc, ◌<◌, eqb, ltb, take}
+use Rattle.std.specs.Prelude.{◌≡◌, Bool, true, false, cond, ◌||◌, List, [], ◌∷◌, ℕ, zero, suc, ◌<◌, eqb, ltb, take, Option, None, Some}
 use Rattle.rules.specs.Signs.{letter, digit, in_name, line_end, comma, plus, ampersand, bar, bracket_open, bracket_close}
 use Rattle.rules.specs.Names.{most_name_bytes}
 use Rattle.rules.specs.Phrases.{most_brackets}
 use Rattle.naming.specs.Sections.{width_of, sections}
 use Rattle.naming.specs.declared.sections.Section.{Section}
 use Rattle.naming.specs.declared.sections.Section.TheVariants.{Columns, Forbid, Need, End}
-use Rattle.form.specs.declared.order.Behind.{Behind}
-use Rattle.form.specs.declared.order.Behind.TheVariants.{Nothing, Line}
 use Rattle.form.specs.declared.machine.Digits.{Digits}
-use Rattle.form.specs.declared.machine.Digits.TheVariants.{None, Zero, Other, Two}
+use Rattle.form.specs.declared.machine.Digits.TheVariants.{Nothing, Zero, Other, Two}
 use Rattle.form.specs.declared.machine.State.{State}
 use Rattle.form.specs.declared.machine.State.TheVariants.{Key, Name, Closed, Number, Done, Wrong}
 use Rattle.form.specs.Order.{follows, likely}
@@ -24,25 +22,25 @@ abbrev pub value_of : Section → State
 value_of Columns = Name Columns 0 0
 value_of Forbid = Name Forbid 0 0
 value_of Need = Name Need 0 0
-value_of End = Number None
+value_of End = Number Nothing
 
 -- k bytes of a section's key stand: another one must come, or what stands behind the key
-abbrev pub onward : Behind → Section → ℕ → State
+abbrev pub onward : Option Section → Section → ℕ → State
 onward behind section k = cond (ltb k (width_of section)) (Key section behind k) (value_of section)
 
 -- k bytes of a section's key stand, and b comes: it is a byte of the first of these keys that goes on with it
-unfoldable pub first_on : Behind → Section → ℕ → ℕ → List Section → State
+unfoldable pub first_on : Option Section → Section → ℕ → ℕ → List Section → State
 first_on behind section k b [] = Wrong
 first_on behind section k b (other ∷ others) =
     cond (goes_on behind section k b other) (onward behind other (suc k)) (first_on behind section k b others)
 
 -- the section's own key is asked first. Two keys that go on alike are both possible still, so either may stand for the other
-abbrev pub in_key : Behind → Section → ℕ → ℕ → State
+abbrev pub in_key : Option Section → Section → ℕ → ℕ → State
 in_key behind section k b = first_on behind section k b (section ∷ sections)
 
 -- a line begins behind one of this section: no byte of a key stands
 abbrev pub new_line : Section → State
-new_line section = Key (likely section) (Line section) 0
+new_line section = Key (likely section) (Some section) 0
 
 -- ---- values
 
@@ -90,14 +88,14 @@ name_on section (suc n) opened b =
 
 -- a digit behind what stands of the number; two digits never start with 0
 abbrev pub on_digit : Digits → ℕ → State
-on_digit None b = cond (eqb b 48) (Number Zero) (Number Other)
+on_digit Nothing b = cond (eqb b 48) (Number Zero) (Number Other)
 on_digit Zero b = Wrong
 on_digit Other b = Number Two
 on_digit Two b = Wrong
 
 -- the number's line ends
 abbrev pub number_ending : Digits → State
-number_ending None = Wrong
+number_ending Nothing = Wrong
 number_ending Zero = Done
 number_ending Other = Done
 number_ending Two = Done
@@ -120,7 +118,7 @@ step Wrong b = Wrong
 -- what holds of every state of a text: the key may stand there and fewer of its bytes stand than it has; the end line may follow a line of names
 abbrev pub Possible : State → Type 0
 Possible (Key section behind k) = (follows behind section ≡ true) × (k < width_of section)
-Possible (Name section count opened) = follows (Line section) End ≡ true
+Possible (Name section count opened) = follows (Some section) End ≡ true
 Possible (Closed opened) = Unit {0}
 Possible (Number digits) = Unit {0}
 Possible Done = Unit {0}
@@ -128,7 +126,7 @@ Possible Wrong = Unit {0}
 
 -- the state where the text begins: columns=
 abbrev pub begin : State
-begin = Key Columns Nothing 0
+begin = Key Columns None 0
 
 -- the state behind all these bytes
 unfoldable pub run : State → List ℕ → State

@@ -1,10 +1,9 @@
 -- The promise of form as a relation of the text and the answer.
-use Rattle.std.specs.Prelude.{List, ℕ}
+use Prim.{Unit}
+use Rattle.std.specs.Prelude.{List, ℕ, Result, Ok, Err}
 use Rattle.rules.specs.Texts.{HasForm, StopsAt}
-use Rattle.form.specs.declared.Formed.{Formed}
-use Rattle.form.specs.declared.Formed.TheVariants.{Whole, Stops}
 
--- the promise allows this answer for this text
-abbrev pub Told : List ℕ → Formed → Type 0
-Told s Whole = HasForm s
-Told s (Stops p) = StopsAt s p
+-- the promise allows this answer for this text: it is of the form, or else stops at the place
+abbrev pub Told : List ℕ → Result (Unit {0}) ℕ → Type 0
+Told s (Ok _) = HasForm s
+Told s (Err p) = StopsAt s p

@@ -6,16 +6,16 @@ ghost use Rattle.form.specs.Order.{follows};
 ghost use Rattle.form.specs.Machine.{value_of, onward as onward_in, first_on, in_key, has_brackets, joining, at_item, behind_item, name_on};
 ghost use Rattle.form.specs.Machine.{in_number, on_digit, number_ending, step as stepped, Possible};
 
-use crate::keys::goes_on;
-use crate::order::{Behind, likely};
-use naming::sections::{SECTIONS, Section, key_byte, section_at, width};
+use crate::keys::first_that_goes_on;
+use crate::order::likely;
+use naming::sections::{Section, key_byte, width};
 use naming::signs::{LINE_END, MOST_BRACKETS, digit, in_name, letter};
 use naming::words::MOST_NAME_BYTES;
 
 // What stands of the end line's number: no digit yet, the digit 0, another one, two digits.
 #[derive(Clone, Copy)]
 pub enum Digits {
-    None,
+    Nothing,
     Zero,
     Other,
     Two,
@@ -23,8 +23,8 @@ pub enum Digits {
 
 #[derive(Clone, Copy)]
 pub enum State {
-    // behind this, so many bytes of a key stand: of this section's, and of every other that begins alike and may stand here
-    Key(Section, Behind, usize),
+    // behind a line of this section, or first in the text, so many bytes of a key stand: of this section's, and of every other that begins alike and may stand here
+    Key(Section, Option<Section>, usize),
     Name(Section, usize, usize), // section, bytes of a name that stand, open brackets. With 0 bytes a name or a bracket must come
     Closed(usize), // a closing bracket stands; brackets still open
     Number(Digits), // what stands of the end line's number
@@ -48,7 +48,7 @@ pub fn step(state: State, byte: u8) -> State
 }
 
 // So many bytes of a section's key stand. Where it does not go on, another may that begins alike.
-fn in_key(behind: Behind, section: Section, k: usize, byte: u8) -> State
+fn in_key(behind: Option<Section>, section: Section, k: usize, byte: u8) -> State
     requires { (follows behind section ≡ true) × (k < width_of section) }
     ensures { result ≡ in_key behind section k byte }
 {
@@ -58,24 +58,19 @@ fn in_key(behind: Behind, section: Section, k: usize, byte: u8) -> State
     first_on(behind, section, k, byte)
 }
 
-// The first section whose key goes on with the byte.
-fn first_on(behind: Behind, section: Section, k: usize, byte: u8) -> State
+// The state behind the byte by the first section whose key goes on with it.
+fn first_on(behind: Option<Section>, section: Section, k: usize, byte: u8) -> State
     requires { k < width_of section }
     ensures { result ≡ first_on behind section k byte sections }
 {
-    let mut i = 0;
-    while i < SECTIONS {
-        let other = section_at(i);
-        if goes_on(behind, section, k, byte, other) {
-            return onward(behind, other, k + 1);
-        }
-        i += 1;
+    match first_that_goes_on(behind, section, k, byte) {
+        Some(other) => onward(behind, other, k + 1),
+        None => State::Wrong,
     }
-    State::Wrong
 }
 
 // So many bytes of a section's key stand: another one must come, or what stands behind the key.
-fn onward(behind: Behind, section: Section, k: usize) -> State
+fn onward(behind: Option<Section>, section: Section, k: usize) -> State
     ensures { result ≡ onward_in behind section k }
 {
     if k < width(section) {
@@ -93,7 +88,7 @@ fn value(section: Section) -> State
         Section::Columns => State::Name(section, 0, 0),
         Section::Forbid => State::Name(section, 0, 0),
         Section::Need => State::Name(section, 0, 0),
-        Section::End => State::Number(Digits::None),
+        Section::End => State::Number(Digits::Nothing),
     }
 }
 
@@ -148,7 +143,7 @@ fn behind_item(section: Section, opened: usize, byte: u8) -> State
     }
     if byte == LINE_END {
         return if opened == 0 {
-            State::Key(likely(section), Behind::Line(section), 0)
+            State::Key(likely(section), Some(section), 0)
         } else {
             State::Wrong
         };
@@ -174,7 +169,7 @@ fn on_digit(digits: Digits, byte: u8) -> State
     ensures { result ≡ on_digit digits byte }
 {
     match digits {
-        Digits::None => {
+        Digits::Nothing => {
             if byte == b'0' {
                 State::Number(Digits::Zero)
             } else {
@@ -192,7 +187,7 @@ fn number_ending(digits: Digits) -> State
     ensures { result ≡ number_ending digits }
 {
     match digits {
-        Digits::None => State::Wrong,
+        Digits::Nothing => State::Wrong,
         Digits::Zero => State::Done,
         Digits::Other => State::Done,
         Digits::Two => State::Done,

@@ -1,14 +1,14 @@
 -- All sections: their order, and a test of all of them as a law of each. Assumes nothing.
 use mathlib.Core.Path.{◌≡◌, refl, sym, ap, ◌∙◌}
 use mathlib.Core.Bool.{Bool, true, false, cond, true≢false}
-use mathlib.Core.List.{[], ◌∷◌, Memᴰ}
-use Prim.Native.Nat.{ℕ, zero, suc, ◌-◌}
-use native.Mathlib.Omega.{arith}
+use mathlib.Core.List.{Memᴰ}
+use Prim.Native.Nat.{ℕ}
 use lib.ListN.{get_or}
 use Rattle.rules.specs.Lists.{every}
 use Rattle.rules.proofs.Lists.{every_in}
 use Rattle.naming.specs.Sections.{sections}
 use Rattle.naming.specs.declared.sections.Section.{Section}
+use Rattle.naming.specs.declared.sections.TheConstants.Section.{ALL}
 use Rattle.naming.specs.declared.sections.Section.TheVariants.{Columns, Forbid, Need, End}
 
 -- the place of a section in the order
@@ -18,19 +18,15 @@ order Forbid = 1
 order Need = 2
 order End = 3
 
+-- the code's list of them is this one
+pub all_listed : ALL ≡ sections
+all_listed = refl
+
 at_order : (section : Section) → get_or sections (order section) End ≡ section
 at_order Columns = refl
 at_order Forbid = refl
 at_order Need = refl
 at_order End = refl
-
--- the last one stands at every other place
-pub at_end : (place : ℕ) → (place ≡ 0 → ⊥) → (place ≡ 1 → ⊥) → (place ≡ 2 → ⊥) → get_or sections place End ≡ End
-at_end place f g h = let e : place ≡ suc (suc (suc (place - 3))) = omega arith in rw e (last (place - 3))
-  where
-    last : (n : ℕ) → get_or (End ∷ []) n End ≡ End
-    last zero = refl
-    last (suc n) = refl
 
 -- two sections at one place are the same
 pub same_order : {a b : Section} → order a ≡ order b → a ≡ b

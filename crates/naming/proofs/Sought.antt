@@ -1,19 +1,17 @@
 -- A name sought among others: what is known while they are gone through. Assumes nothing.
 use mathlib.Core.Path.{◌≡◌, refl, ap, ◌∙◌}
-use mathlib.Core.Bool.{Bool, true, false}
+use mathlib.Core.Bool.{true, false}
 use mathlib.Core.List.{List, [], ◌∷◌}
-use Rattle.rules.specs.Options.{Option, None, Some, option_map, unwrap_or}
+use Rattle.rules.specs.Options.{Option, None, Some, option_map}
 use Prim.Native.Nat.{ℕ, suc, ◌+◌, ◌<◌, ◌≤◌}
-use native.Mathlib.Nat.{zero-add}
+use native.Mathlib.Nat.{zero-add, add-zero}
 use native.Mathlib.Omega.{arith}
 use lib.ListN.{length}
 use Rattle.rules.specs.Lists.{any_of, first_where}
 use Rattle.rules.specs.Sets.{most_columns}
 use Rattle.rules.specs.Signs.{byte_at, piece, in_name}
 use Rattle.rules.specs.Names.{Spot, Run, same_name}
-use Rattle.rules.specs.Sheets.{column_named, column_in, stands_in}
-use Rattle.rules.proofs.Lists.{none_first}
-use Rattle.rules.proofs.ListTests.{first_below}
+use Rattle.rules.specs.Sheets.{column_named, stands_in}
 use Rattle.naming.specs.Words.{is_sign, Skips, Between, Words}
 use Rattle.naming.proofs.Runs.{name_no_sign}
 use Rattle.naming.proofs.Walks.{between_forward, between_none, skips_between, skips_stops, at_name, some_name, at_end, words_some}
@@ -99,25 +97,25 @@ sought_start {s} {p} {place} {q} {name} {columns} w k =
     go (Some k) = rw zero-add
 
 module _ {s : List ℕ} {place q column : ℕ} {name : List ℕ} {columns : List Spot} (sought : Sought s place q column name columns) where
-  sought_nothing : sought.later ≡ [] → unwrap_or (column_named columns name) most_columns ≡ most_columns
+  sought_nothing : sought.later ≡ [] → column_named columns name ≡ None
   unfolding column_named first_where
   sought_nothing e = rw (sought.finds, e)
 
   -- where no name stands it is no column
-  pub sought_none : in_name (byte_at s place) ≡ false → unwrap_or (column_named columns name) most_columns ≡ most_columns
+  pub sought_none : in_name (byte_at s place) ≡ false → column_named columns name ≡ None
   sought_none e = sought_nothing (ahead_end sought.ahead e).1
 
   -- when 16 columns are past it is no column
-  pub sought_all : most_columns ≤ column → length columns ≤ most_columns → unwrap_or (column_named columns name) most_columns ≡ most_columns
+  pub sought_all : most_columns ≤ column → length columns ≤ most_columns → column_named columns name ≡ None
   sought_all h few = sought_nothing (none_left sought.later (omega (arith, sought.many)))
 
   -- where the same name stands it is that column
   pub sought_here : in_name (byte_at s place) ≡ true → ((r : ℕ) → Run s place r → same_name (piece s place r) name ≡ true)
-      → unwrap_or (column_named columns name) most_columns ≡ column
+      → column_named columns name ≡ Some column
   unfolding column_named first_where
   sought_here e same =
       let f = words_some sought.ahead.words e in
-      rw (sought.finds, f.1.same, same f.0 f.1.name.run) (omega arith)
+      rw (sought.finds, f.1.same, same f.0 f.1.name.run, add-zero)
 
   -- past another name it is sought among those behind that one
   pub sought_next : {r next : ℕ} → in_name (byte_at s place) ≡ true → Run s place r → same_name (piece s place r) name ≡ false → Skips s r next
@@ -135,27 +133,3 @@ module _ {s : List ℕ} {place q column : ℕ} {name : List ℕ} {columns : List
       go : (o : Option ℕ) → option_map (λ k. column + k) (option_map suc o) ≡ option_map (λ k. column + 1 + k) o
       go None = refl
       go (Some k) = let e : column + suc k ≡ column + 1 + k = omega arith in rw e
-
--- ---- the column, or 0
-
-module _ (columns : List Spot) (x : Spot) {r : ℕ} (found : r ≡ unwrap_or (column_named columns x.name) most_columns) where
-  -- a column that was found is the name's column
-  pub known_column : r < most_columns → r ≡ column_in columns x
-  unfolding column_in
-  known_column h = go (column_named columns x.name) found
-    where
-      go : (o : Option ℕ) → r ≡ unwrap_or o most_columns → r ≡ unwrap_or o 0
-      go None e = absurd (omega arith)
-      go (Some k) e = e
-
-  -- where none was found the name's column is 0
-  pub unknown_column : length columns ≤ most_columns → most_columns ≤ r → 0 ≡ column_in columns x
-  unfolding column_in column_named stands_in
-  unknown_column few h = go (stands_in columns x) refl
-    where
-      same : Spot → Bool
-      same c = same_name c.name x.name
-
-      go : (b : Bool) → any_of same columns ≡ b → 0 ≡ column_in columns x
-      go true e = let first = first_below same columns e in absurd (omega (arith, first.2, rw first.1 at found))
-      go false e = rw (none_first same columns e)

@@ -10,7 +10,7 @@ use crate::known::COLUMNS_FROM;
 use crate::signs::stands;
 use crate::words::line_end;
 
-#[derive(Clone, Copy)]
+#[derive(Clone, Copy, Debug, PartialEq, Eq)]
 pub enum Section {
     Columns,
     Forbid,
@@ -18,19 +18,14 @@ pub enum Section {
     End,
 }
 
-// How many sections there are.
-pub const SECTIONS: usize = 4;
-
-// The section at a place of their order.
-pub fn section_at(place: usize) -> Section
-    ensures { result ≡ get_or sections place End }
-{
-    match place {
-        0 => Section::Columns,
-        1 => Section::Forbid,
-        2 => Section::Need,
-        _ => Section::End,
-    }
+impl Section {
+    // All of them, in their order.
+    pub const ALL: [Section; 4] = [
+        Section::Columns,
+        Section::Forbid,
+        Section::Need,
+        Section::End,
+    ];
 }
 
 // How many bytes stand before the value of its lines.
@@ -108,17 +103,13 @@ pub fn counts(section: Section) -> bool
 }
 
 // Whether the key of a section whose lines it counts stands at a place.
+#[tactic(auto, unfolding(crate::specs::Sections::counted_at, rules::specs::Lists::any_of))]
 pub fn counted_at(text: &[u8], at: usize) -> bool
     ensures { result ≡ counted_at text.now at }
 {
-    let mut i = 0;
-    while i < SECTIONS {
-        if counted_by(text, section_at(i), at) {
-            return true;
-        }
-        i += 1;
-    }
-    false
+    Section::ALL
+        .iter()
+        .any(|section| counted_by(text, *section, at))
 }
 
 // Whether the number at the end counts the lines of this section, and its key stands at a place.

@@ -1,11 +1,6 @@
--- `form::form` meets its contract. Assumes nothing.
-use Prim.Native.Nat.{◌-◌}
-use lib.ListN.{length}
+-- `form::form` meets its contract. The invariant: the bytes so far have led to the state, and none was wrong. Assumes nothing.
 use Rattle.form.proofs.Places.{Followed}
 use Rattle.form.proofs.form.Given as goal
 
 abbrev pub invariant-loop-i : goal.invariant-loop-i
 invariant-loop-i l = Followed l.text l.state l.i
-
-abbrev pub decreases-loop-i : goal.decreases-loop-i
-decreases-loop-i l = length l.text - l.i

@@ -7,32 +7,27 @@ use Rattle.naming.proofs.Sought.{sought_start, sought_none, sought_here, sought_
 use Rattle.naming.proofs.known.column_of.Goals as goal
 
 pub loop-column-init : goal.loop-column-init
-loop-column-init c = (omega arith, λ p q columns w run. sought_start w c.next_name-place.ensures)
+loop-column-init c = λ p q columns w run. sought_start w c.next_name-place.ensures
 
 pub returns-then-not-in_name-clause-is : goal.returns-then-not-in_name-clause-is
 returns-then-not-in_name-clause-is c =
-    let l = c.loop-column in
     let over = told c.byte.ensures c.in_name.ensures c.if-not-in_name.true in
-    λ p q columns w few run. sym (sought_none (l.invariant.1 p q columns w run) over)
+    λ p q columns w few run. sym (sought_none (c.loop-column.invariant p q columns w run) over)
 
 pub returns-then-same-clause-is : goal.returns-then-same-clause-is
 returns-then-same-clause-is c =
     let here = told c.byte.ensures c.in_name.ensures c.if-not-in_name.false in
-    let l = c.loop-column in
     λ p q columns w few run.
-    sym (sought_here (l.invariant.1 p q columns w run) here (λ r named. sym (c.same.ensures r p named run) ∙ c.if-same.true))
+    sym (sought_here (c.loop-column.invariant p q columns w run) here (λ r named. sym (c.same.ensures r p named run) ∙ c.if-same.true))
 
 pub loop-column-preserved : goal.loop-column-preserved
 loop-column-preserved c =
     let here = told c.byte.ensures c.in_name.ensures c.if-not-in_name.false in
-    let ends = c.name_end.ensures in (
-      omega (arith, c.loop-column-test.true),
-      λ p q columns w run.
-          sought_next (c.loop-column.invariant.1 p q columns w run) here ends
-          (sym (c.same.ensures c.name_end.result p ends run) ∙ c.if-same.false) c.next_name-place-in-loop-column.ensures,
-    )
+    let ends = c.name_end.ensures in
+    λ p q columns w run.
+    sought_next (c.loop-column.invariant p q columns w run) here ends
+    (sym (c.same.ensures c.name_end.result p ends run) ∙ c.if-same.false) c.next_name-place-in-loop-column.ensures
 
 pub returns-clause-is : goal.returns-clause-is
 returns-clause-is c =
-    let l = c.loop-column in
-    λ p q columns w few run. sym (sought_all (l.invariant.1 p q columns w run) c.loop-column-test.false few)
+    λ p q columns w few run. sym (sought_all (c.loop-column.invariant p q columns w run) (omega arith) few)
