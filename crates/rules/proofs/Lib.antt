@@ -1,5 +1,6 @@
 -- The laws of the definitions in specs/, a file for each subject, in the order in which they build on each other.
 pub mod Options
+pub mod Library
 pub mod Lists
 pub mod Searches
 pub mod Written
