@@ -1,6 +1,7 @@
 -- A job that loading gives holds the numbers that were loaded, and is sound. Assumes nothing.
 use mathlib.Core.Path.{◌≡◌, refl, sym, ap, subst, ◌∙◌}
-use mathlib.Core.Bool.{Bool, true, false, true≢false, false≢true}
+use mathlib.Core.Bool.{Bool, true, false}
+use Rattle.rules.proofs.Options.{Option, None, Some, some-injective, none-ne-some, some-ne-none}
 use mathlib.Core.List.{List}
 use Prim.Native.Nat.{ℕ, ◌≤◌}
 use lib.ListN.{length, take, replicate, length-replicate}
@@ -11,7 +12,7 @@ use Rattle.rules.proofs.Written.{take_written}
 use Rattle.rules.proofs.Numbers.{fit_clauses}
 use Rattle.rules.proofs.Marks.{marks_few}
 use Rattle.job.specs.Records.{numbers_in, job_with, loaded, Sound}
-use Rattle.job.specs.declared.Loaded.{Loaded}
+use Rattle.job.specs.declared.Job.{Job}
 
 -- numbers written over places that hold 0
 held : (numbers : List ℕ) (places : ℕ) → length numbers ≤ places → take (length numbers) (written numbers (replicate places 0)) ≡ numbers
@@ -36,26 +37,28 @@ fit_sound q e =
       needs = rw (fit_numbers q e);
     }
 
-pub loaded_fit : (q : Numbers) (l : Loaded) → l ≡ loaded q → l.fit ≡ true → (unfit q ≡ false) × (l.job ≡ job_with q)
-unfolding loaded
-loaded_fit q l e f = go (unfit q) refl
-  where
-    go : (b : Bool) → unfit q ≡ b → (unfit q ≡ false) × (l.job ≡ job_with q)
-    go true u = absurd (true≢false (sym f ∙ ap (λ (r : Loaded). r.fit) e ∙ rw u))
-    go false u = (u, ap (λ (r : Loaded). r.job) e ∙ rw u)
+-- ---- what a caller of loading has
 
-pub loaded_unfit : (q : Numbers) (l : Loaded) → l ≡ loaded q → l.fit ≡ false → unfit q ≡ true
-unfolding loaded
-loaded_unfit q l e f = go (unfit q) refl
-  where
-    go : (b : Bool) → unfit q ≡ b → unfit q ≡ true
-    go true u = u
-    go false u = absurd (false≢true (sym f ∙ ap (λ (r : Loaded). r.fit) e ∙ rw u))
+module _ (q : Numbers) (answer : Option Job) (e : answer ≡ loaded q) where
+  pub loaded_unfit : answer ≡ None → unfit q ≡ true
+  unfolding loaded
+  loaded_unfit none = go (unfit q) refl
+    where
+      go : (b : Bool) → unfit q ≡ b → unfit q ≡ true
+      go true u = u
+      go false u = absurd (none-ne-some (job_with q) (sym none ∙ e ∙ rw u))
 
--- ---- what a caller of loading has, where the numbers are fit
+  module _ (job : Job) (some : answer ≡ Some job) where
+    pub loaded_fit : (unfit q ≡ false) × (job ≡ job_with q)
+    unfolding loaded
+    loaded_fit = go (unfit q) refl
+      where
+        go : (b : Bool) → unfit q ≡ b → (unfit q ≡ false) × (job ≡ job_with q)
+        go true u = absurd (some-ne-none job (sym some ∙ e ∙ rw u))
+        go false u = (u, some-injective job (job_with q) (sym some ∙ e ∙ rw u))
 
-pub loaded_sound : (q : Numbers) (l : Loaded) → l ≡ loaded q → l.fit ≡ true → Sound l.job
-loaded_sound q l e f = let fit = loaded_fit q l e f in subst Sound (sym fit.1) (fit_sound q fit.0)
+    pub loaded_sound : Sound job
+    loaded_sound = subst Sound (sym loaded_fit.1) (fit_sound q loaded_fit.0)
 
-pub loaded_numbers : (q : Numbers) (l : Loaded) → l ≡ loaded q → l.fit ≡ true → numbers_in l.job ≡ q
-loaded_numbers q l e f = let fit = loaded_fit q l e f in ap numbers_in fit.1 ∙ fit_numbers q fit.0
+    pub loaded_numbers : numbers_in job ≡ q
+    loaded_numbers = ap numbers_in loaded_fit.1 ∙ fit_numbers q loaded_fit.0

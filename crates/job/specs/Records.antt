@@ -1,10 +1,9 @@
 -- The job as a value. It holds the numbers of a fit job, and every place without a number is 0.
-use Rattle.std.specs.Prelude.{◌≡◌, false, true, cond, [], ◌≤◌, length, take, replicate}
+use Rattle.std.specs.Prelude.{◌≡◌, false, cond, [], ◌≤◌, Option, Some, None, length, take, replicate}
 use Rattle.rules.specs.Lists.{written}
 use Rattle.rules.specs.Marks.{rows}
 use Rattle.rules.specs.Numbers.{Numbers, unfit}
 use Rattle.job.specs.declared.Job.{Job}
-use Rattle.job.specs.declared.Loaded.{Loaded}
 
 -- the numbers that a job holds
 unfoldable pub numbers_in : Job → Numbers
@@ -27,9 +26,9 @@ job_with q =
 unfoldable pub no_job : Job
 no_job = job_with (record { columns = 0; forbidden = []; marks = [] })
 
--- what loading numbers gives
-unfoldable pub loaded : Numbers → Loaded
-loaded q = cond (unfit q) (record { fit = false; job = no_job }) (record { fit = true; job = job_with q })
+-- what loading numbers gives: the job that holds them, if they are fit
+unfoldable pub loaded : Numbers → Option Job
+loaded q = cond (unfit q) None (Some (job_with q))
 
 -- a job that loading can give: its counts lie within its places, and its numbers are fit
 pub record Sound (job : Job) : Type 0 where

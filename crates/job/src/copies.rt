@@ -6,9 +6,6 @@ ghost use Rattle.rules.specs.Lists.{written};
 pub fn write(to: &mut [u16], from: &[u16])
     ensures { to.new ≡ written from.now to.old }
 {
-    let mut i = 0;
-    while i < to.len() && i < from.len() {
-        to[i] = from[i];
-        i += 1;
-    }
+    let count = to.len().min(from.len());
+    to[..count].copy_from_slice(&from[..count]);
 }

@@ -1,9 +1,9 @@
 // Which numbers are unfit, by 01's list.
-ghost use Rattle.std.specs.Prelude.{◌≡◌, cond, not, ◌||◌, ltb};
-ghost use Rattle.rules.specs.Lists.{any_of, first_where};
+ghost use Rattle.std.specs.Prelude.{◌≡◌, position, cond, not, ◌||◌, ltb};
+ghost use Rattle.rules.specs.Lists.{any_of};
 ghost use Rattle.rules.specs.Marks.{and_mark};
 ghost use Rattle.rules.specs.Numbers.{set_unfit, mark_unfit, need_unfit};
-ghost use Rattle.job.specs.Findings.{place_of, count_of, need_count};
+ghost use Rattle.job.specs.Findings.{need_count};
 
 use crate::rows;
 use crate::rows::{AND_MARK, END_MARK, MOST_NEEDS, OR_MARK};
@@ -12,32 +12,12 @@ use columns::ColumnSet;
 // "Column marks in a need 1 to 32."
 pub const MOST_COLUMN_MARKS: usize = 32;
 
-// Where the first is that was looked for.
-#[derive(Clone, Copy)]
-pub enum Found {
-    At(usize),
-    Nothing,
-}
-
-// How many needs the marks are, where they are fit.
-#[derive(Clone, Copy)]
-pub enum Counted {
-    Needs(usize),
-    Unfit,
-}
-
 // The first set that is empty or names a column that doesn't exist.
-pub fn first_unfit_set(columns: u16, sets: &[u16]) -> Found
-    ensures { place_of result ≡ first_where (set_unfit columns) sets.now }
+pub fn first_unfit_set(columns: u16, sets: &[u16]) -> Option<usize>
+    ensures { result ≡ position (set_unfit columns) sets.now }
 {
-    let mut i = 0;
-    while i < sets.len() {
-        if set_unfit(columns, ColumnSet { bits: sets[i] }) {
-            return Found::At(i);
-        }
-        i += 1;
-    }
-    Found::Nothing
+    sets.iter()
+        .position(|set| set_unfit(columns, ColumnSet { bits: *set }))
 }
 
 fn set_unfit(columns: u16, set: ColumnSet) -> bool
@@ -66,9 +46,7 @@ fn need_fit(columns: u16, need: &[u16]) -> bool
 {
     let mut operands: usize = 0;
     let mut named: usize = 0;
-    let mut i = 0;
-    while i < need.len() {
-        let mark = need[i];
+    for &mark in need {
         if mark_unfit(columns, mark) {
             return false;
         }
@@ -81,24 +59,23 @@ fn need_fit(columns: u16, need: &[u16]) -> bool
             operands += 1;
         }
         named += column_marks(mark);
-        i += 1;
     }
     operands == 1 && named <= MOST_COLUMN_MARKS
 }
 
 // How many needs the marks are, if they are whole needs, each fit and closed by an end mark, and not over 8.
-pub fn needs_fit(columns: u16, marks: &[u16]) -> Counted
-    ensures { count_of result ≡ need_count columns marks.now }
+pub fn needs_fit(columns: u16, marks: &[u16]) -> Option<usize>
+    ensures { result ≡ need_count columns marks.now }
 {
     let mut count = 0;
     let mut from = 0;
     while from < marks.len() {
         let to = rows::end_of_need(marks, from);
         if to == marks.len() || count == MOST_NEEDS || !need_fit(columns, &marks[from..to]) {
-            return Counted::Unfit;
+            return None;
         }
         from = to + 1;
         count += 1;
     }
-    Counted::Needs(count)
+    Some(count)
 }

@@ -2,15 +2,15 @@
 #![tactic(auto)]
 
 use columns::ColumnSet;
-use fitness::{Counted, Found};
 
 pub mod copies; // copies.rt: numbers written over the first places of a slice
 pub mod fitness; // fitness.rt: which numbers are unfit
-pub mod refusals; // refusals.rt: the numbers of the refusals
+pub mod refusals; // refusals.rt: the refusals, each with its number
 pub mod rows; // rows.rt: the needs laid out for evaluation
 
-ghost use Rattle.std.specs.Prelude.{◌≡◌, true, false, length};
+ghost use Rattle.std.specs.Prelude.{◌≡◌, length};
 ghost use Rattle.rules.specs.Marks.{rows as rows_in};
+ghost use Rattle.job.specs.Given.{given};
 ghost use Rattle.job.specs.Records.{no_job, job_with, loaded};
 
 // "Forbidden sets 0 to 32." Eight needs of 63 marks and an end mark each are 512.
@@ -29,33 +29,35 @@ pub struct Job {
     pub marks: [u16; MOST_MARKS],
 }
 
-// A job, if the numbers are fit; if not, one with no columns, sets or marks.
+// The numbers of a job as they are lent, fit or not.
 #[derive(Clone, Copy)]
-pub struct Loaded {
-    pub fit: bool,
-    pub job: Job,
+pub struct Numbers<'a> {
+    pub columns: usize,
+    pub forbidden: &'a [u16],
+    pub marks: &'a [u16], // of the needs
 }
 
-// The job of the number of columns, the forbidden sets, and the marks of the needs.
-pub fn load(columns: usize, forbidden: &[u16], marks: &[u16]) -> Loaded
-    ensures { result ≡ loaded (record { columns = columns; forbidden = forbidden.now; marks = marks.now }) }
+// The job of the numbers, if they are fit.
+pub fn load(numbers: Numbers) -> Option<Job>
+    ensures { result ≡ loaded (given numbers.entry) }
 {
+    let Numbers {
+        columns,
+        forbidden,
+        marks,
+    } = numbers;
     if columns == 0
         || (ColumnSet::MOST_COLUMNS as usize) < columns
         || MOST_FORBIDDEN < forbidden.len()
     {
-        return unfit();
+        return None;
     }
     let n = columns as u16;
-    let set = fitness::first_unfit_set(n, forbidden);
-    let Found::Nothing = set else {
-        return unfit();
-    };
-    let counted = fitness::needs_fit(n, marks);
-    let Counted::Needs(count) = counted else {
-        return unfit();
-    };
-    fit(n, forbidden, count, marks)
+    if fitness::first_unfit_set(n, forbidden).is_some() {
+        return None;
+    }
+    let needs = fitness::needs_fit(n, marks)?;
+    Some(fit(n, forbidden, needs, marks))
 }
 
 // A job with no columns, sets or marks.
@@ -72,33 +74,21 @@ pub fn no_job() -> Job
     }
 }
 
-// What unfit numbers give.
-fn unfit() -> Loaded
-    ensures { (result.fit ≡ false) × (result.job ≡ no_job) }
-{
-    let job = no_job();
-    Loaded { fit: false, job }
-}
-
-// What fit numbers give.
-fn fit(columns: u16, forbidden: &[u16], needs: usize, marks: &[u16]) -> Loaded
+// The job of fit numbers, of which the marks are so many needs.
+fn fit(columns: u16, forbidden: &[u16], needs: usize, marks: &[u16]) -> Job
     requires { needs ≡ length (rows_in marks.now) }
-    ensures fits { result.fit ≡ true }
-    ensures holds { result.job ≡ job_with (record { columns = columns; forbidden = forbidden.now; marks = marks.now }) }
+    ensures { result ≡ job_with (record { columns = columns; forbidden = forbidden.now; marks = marks.now }) }
 {
     let mut sets = [0u16; MOST_FORBIDDEN];
     copies::write(&mut sets, forbidden);
     let mut all = [0u16; MOST_MARKS];
     copies::write(&mut all, marks);
-    Loaded {
-        fit: true,
-        job: Job {
-            columns: columns,
-            sets: forbidden.len(),
-            forbidden: sets,
-            needs: needs,
-            marked: marks.len(),
-            marks: all,
-        },
+    Job {
+        columns,
+        sets: forbidden.len(),
+        forbidden: sets,
+        needs,
+        marked: marks.len(),
+        marks: all,
     }
 }

@@ -1,8 +1,8 @@
 -- Laws of a list written over the first places of another. Assumes nothing.
 use mathlib.Core.Path.{◌≡◌, refl, ap}
 use mathlib.Core.List.{List, [], ◌∷◌, ◌++◌}
-use Prim.Native.Nat.{ℕ, zero, suc, ◌+◌, ◌≤◌, ◌<◌}
-use native.Mathlib.Numerals.{add-one}
+use Prim.Native.Nat.{ℕ, zero, suc, ◌+◌, ◌≤◌, ◌<◌, min}
+use native.Mathlib.Numerals.{add-one, unary_clauses}
 use native.Mathlib.Omega.{arith}
 use lib.ListN.{length, get_or, set, take, drop, replicate, get_or-replicate}
 use Rattle.rules.specs.Lists.{written}
@@ -71,6 +71,13 @@ module _ {A : Type 0} where
   get_d_padded (x ∷ new) zero k d h = absurd (omega arith)
   get_d_padded (x ∷ new) (suc n) zero d h = refl
   get_d_padded (x ∷ new) (suc n) (suc k) d h = get_d_padded new n k d (omega arith)
+
+  -- the first places of it are the new list's, the others the old one's
+  pub written_parts : (new old : List A) → take (min (length old) (length new)) new ++ drop (min (length old) (length new)) old ≡ written new old
+  unfolding written
+  written_parts [] old = simp unary_clauses refl
+  written_parts (x ∷ new) [] = simp unary_clauses refl
+  written_parts (x ∷ new) (y ∷ old) = simp unary_clauses (ap (λ (s : List A). x ∷ s) (written_parts new old))
 
   -- a list that is another from a place on was written over the places before
   pub written_back : (count : ℕ) (old new : List A) → length new ≡ length old → drop count new ≡ drop count old

@@ -2,6 +2,6 @@
 use Rattle.job.specs.Records.{job_with}
 use Rattle.job.proofs.fit.Goals as goal
 
-pub returns-clause-holds : goal.returns-clause-holds
+pub returns : goal.returns
 unfolding job_with
-returns-clause-holds c = rw (c.write.ensures, c.write-2.ensures, c.requires)
+returns c = rw (c.write.ensures, c.write-2.ensures, c.requires)

@@ -11,26 +11,26 @@ use Rattle.std.proofs.Common.{rules}
 use Rattle.job.proofs.fitness.need_fit.Goals.{then-mark-eq-OR_MARK+else-operands-lt2, else-mark-eq-OR_MARK}
 use Rattle.job.proofs.fitness.need_fit.Goals as goal
 
-pub loop-i-init : goal.loop-i-init
-loop-i-init c = (search rules, search rules, left_start _ _)
+pub loop-mark-init : goal.loop-mark-init
+loop-mark-init c = (search rules, search rules, left_start _ _)
 
 pub returns-then-mark_unfit : goal.returns-then-mark_unfit
 returns-then-mark_unfit c =
-    let l = c.loop-i in
-    sym (left_unfit l.invariant.2 c.loop-i-test.true (sym c.mark_unfit.ensures ∙ c.if-mark_unfit.true))
+    let l = c.loop-mark in
+    sym (left_unfit l.invariant.2 c.loop-mark-test.true (sym c.mark_unfit.ensures ∙ c.if-mark_unfit.true))
 
 pub returns-then-operands-lt2 : goal.returns-then-operands-lt2
 returns-then-operands-lt2 c =
-    let l = c.loop-i in
-    let more = c.loop-i-test.true in
+    let l = c.loop-mark in
+    let more = c.loop-mark-test.true in
     sym (left_few l.invariant.2 more (join_test _ c.if-mark-eq-OR_MARK.either) c.if-operands-lt2.true)
 
-pub loop-i-preserved : goal.loop-i-preserved
-loop-i-preserved c =
-    let l = c.loop-i in
-    let more = c.loop-i-test.true in
+pub loop-mark-preserved : goal.loop-mark-preserved
+loop-mark-preserved c =
+    let l = c.loop-mark in
+    let more = c.loop-mark-test.true in
     let fit = sym c.mark_unfit.ensures ∙ c.if-mark_unfit.false in
-    let few : c.column_marks-named.result ≤ 1 = rw c.column_marks-named.ensures (one_most (ltb (get_or c.args.need.now l.i 0) 16)) in
+    let few : c.column_marks-named.result ≤ 1 = rw c.column_marks-named.ensures (one_most (ltb (get_or c.args.need.now l.mark-index 0) 16)) in
     elim c.if-mark-eq-OR_MARK.branch [
       | then-mark-eq-OR_MARK+else-operands-lt2 w ↦ (
         omega arith,
@@ -47,10 +47,10 @@ loop-i-preserved c =
     ]
 
 pub returns-then-operands-eq1 : goal.returns-then-operands-eq1
-returns-then-operands-eq1 c = rw c.if-operands-eq1.true at (sym (left_end c.loop-i.invariant.2 c.loop-i-test.false))
+returns-then-operands-eq1 c = rw c.if-operands-eq1.true at (sym (left_end c.loop-mark.invariant.2 c.loop-mark-test.false))
 
 pub returns-else-operands-eq1 : goal.returns-else-operands-eq1
 returns-else-operands-eq1 c =
-    let l = c.loop-i in
+    let l = c.loop-mark in
     let other = ne_eqb l.operands 1 c.if-operands-eq1.false in
-    rw other (sym (rw other at (left_end l.invariant.2 c.loop-i-test.false)))
+    rw other (sym (rw other at (left_end l.invariant.2 c.loop-mark-test.false)))
