@@ -1,5 +1,6 @@
 -- What the contracts of growing cite besides the rules.
 pub mod Slices
+pub mod Lent
 pub mod Building
 pub mod Buckets
 pub mod Rebuilding
