@@ -1,83 +1,109 @@
 -- Tables of a byte for each set: a need more for the sets of a block, and for those of one block more. Assumes nothing.
-use mathlib.Core.Path.{◌≡◌, refl, sym, ap, ap₂, ◌∙◌}
+use mathlib.Core.Path.{◌≡◌, sym, ap, ap₂, ◌∙◌}
 use mathlib.Core.Bool.{Bool, true, false, cond}
-use mathlib.Core.List.{List}
+use mathlib.Core.List.{List, ◌++◌}
 use Prim.Native.Nat.{ℕ, ◌+◌, ◌-◌, ◌*◌, ◌<◌}
 use native.Mathlib.Decide.{dec_lt}
 use native.Mathlib.Omega.{arith}
-use lib.ListN.{length, get_or, take, set}
-use lib.Seq.{get_or-set_same, get_or-set_other, get_or-take, take-set-le}
+use lib.ListN.{length, get_or, take, drop, set, get_or-append}
+use lib.Seq.{get_or-set_same, get_or-set_other, get_or-take, get_or-drop}
+use borrow.Rule.Slice.PartMut.{put_mid}
 use borrow.Author.Count.{below_more}
+use Rattle.std.proofs.lemmas.List.Edits.{get_or-between}
+use Rattle.std.proofs.lemmas.Slice.{take-put_mid_below, drop-put_mid, between-put_mid}
 use Rattle.rules.specs.Sets.{has}
 use Rattle.tables.specs.Tables.{Tells, Valued, Stays}
 use Rattle.tables.proofs.WordTables.{stays_at, stays_later, stays_set}
 
 -- ---- lane by lane in a block
 
--- the first so many lanes of a block have their worth more, and nothing else has changed
-pub record Given (lanes worth block lane : ℕ) (old new : List ℕ) : Type 0 where
-  pub told : (i : ℕ) → i < lane → get_or new (64 * block + i) 0 ≡ get_or old (64 * block + i) 0 + cond (has i lanes) worth 0
-  pub before : take (64 * block) new ≡ take (64 * block) old
-  pub stays : Stays (64 * block + lane) old new
+-- the first so many lanes of a block have their worth more, and nothing after them has changed
+pub record Given (lanes worth lane : ℕ) (old new : List ℕ) : Type 0 where
+  pub told : (i : ℕ) → i < lane → get_or new i 0 ≡ get_or old i 0 + cond (has i lanes) worth 0
+  pub stays : Stays lane old new
 
-module _ (lanes worth block : ℕ) (old : List ℕ) where
-  pub none_given : Given lanes worth block 0 old old
-  none_given = record { told = λ i h. absurd (omega arith); before = refl; stays = refl }
-
+module _ (lanes worth : ℕ) (old : List ℕ) where
   abbrev Next : ℕ → List ℕ → Type 0
-  Next lane new = get_or new (64 * block + lane) 0 ≡ get_or old (64 * block + lane) 0 + cond (has lane lanes) worth 0
+  Next lane new = get_or new lane 0 ≡ get_or old lane 0 + cond (has lane lanes) worth 0
 
-  pub given : (lane : ℕ) (new : List ℕ) → 64 * block + lane < length new → Given lanes worth block lane old new → has lane lanes ≡ true
-      → Given lanes worth block (lane + 1) old (set new (64 * block + lane) (get_or new (64 * block + lane) 0 + worth))
+  pub given : (lane : ℕ) (new : List ℕ) → lane < length new → Given lanes worth lane old new → has lane lanes ≡ true
+      → Given lanes worth (lane + 1) old (set new lane (get_or new lane 0 + worth))
   given lane new h g e =
-      let place = 64 * block + lane in
-      let value = get_or new place 0 + worth in
+      let value = get_or new lane 0 + worth in
       record {
         told =
-            below_more (λ i. Next i (set new place value)) lane (λ i l. get_or-set_other new place (64 * block + i) value 0 (λ q. omega arith) ∙ g.told i l)
-            (get_or-set_same new place value 0 h ∙ rw e (ap (λ (x : ℕ). x + worth) (stays_at place place old new (omega arith) g.stays)));
-        before = take-set-le (64 * block) new place value (omega arith) ∙ g.before;
-        stays = let sum : 64 * block + (lane + 1) ≡ place + 1 = omega arith in rw sum (stays_set place value old new g.stays);
+            below_more (λ i. Next i (set new lane value)) lane (λ i l. get_or-set_other new lane i value 0 (λ q. omega arith) ∙ g.told i l)
+            (get_or-set_same new lane value 0 h ∙ rw e (ap (λ (x : ℕ). x + worth) (stays_at lane lane old new (omega arith) g.stays)));
+        stays = stays_set lane value old new g.stays;
       }
 
-  pub not_given : (lane : ℕ) (new : List ℕ) → Given lanes worth block lane old new → has lane lanes ≡ false
-      → Given lanes worth block (lane + 1) old new
+  pub not_given : (lane : ℕ) (new : List ℕ) → Given lanes worth lane old new → has lane lanes ≡ false
+      → Given lanes worth (lane + 1) old new
   not_given lane new g e =
-      let place = 64 * block + lane in
       record {
-        told = below_more (λ i. Next i new) lane g.told (rw e (omega (arith, stays_at place place old new (omega arith) g.stays)));
-        before = g.before;
-        stays = stays_later place (64 * block + (lane + 1)) old new (omega arith) g.stays;
+        told = below_more (λ i. Next i new) lane g.told (rw e (omega (arith, stays_at lane lane old new (omega arith) g.stays)));
+        stays = stays_later lane (lane + 1) old new (omega arith) g.stays;
       }
 
 -- ---- block by block in a table
 
 -- the sets of the first so many blocks have their worth more, and nothing after them has changed
-abbrev pub Added : ℕ → ℕ → List ℕ → ℕ → List ℕ → List ℕ → Type 0
-Added worth count words block old new =
-    ((test : ℕ → Bool) (value : ℕ → ℕ) → Tells count test words → Valued (64 * count) value old
+abbrev pub Added : ℕ → List ℕ → ℕ → List ℕ → List ℕ → Type 0
+Added worth words block old new =
+    ((test : ℕ → Bool) (value : ℕ → ℕ) → Tells (length words) test words → Valued (64 * length words) value old
     → Valued (64 * block) (λ s. value s + cond (test s) worth 0) new)
     × Stays (64 * block) old new
 
-pub added : (worth count : ℕ) (words : List ℕ) (block : ℕ) (old new last : List ℕ) → block < count → Added worth count words block old new
-    → Given (get_or words block 0) worth block 64 new last → Added worth count words (block + 1) old last
-added worth count words block old new last h a g = (λ test value told listed s l. go test value told listed s l (dec_lt s (64 * block)), rest)
-  where
-    rest : Stays (64 * (block + 1)) old last
-    rest =
-        let sum : 64 * (block + 1) ≡ 64 * block + 64 = omega arith in
-        rw sum (g.stays ∙ stays_later (64 * block) (64 * block + 64) old new (omega arith) a.1)
+-- the part of the block is read and written for itself
+module _ (worth : ℕ) (words : List ℕ) (block k : ℕ) (old new part : List ℕ) (h : block < length words) (places : length new ≡ 64 * length words)
+    (whole : k ≡ 64) (size : length part ≡ 64) (a : Added worth words block old new)
+    (given : (lane : ℕ) → lane < 64
+    → get_or part lane 0 ≡ get_or (take k (drop (64 * block) new)) lane 0 + cond (has lane (get_or words block 0)) worth 0) where
+  last : List ℕ
+  last = put_mid (64 * block) k new part
 
-    go : (test : ℕ → Bool) (value : ℕ → ℕ) → Tells count test words → Valued (64 * count) value old → (s : ℕ) → s < 64 * (block + 1)
-        → Dec (s < 64 * block) → get_or last s 0 ≡ value s + cond (test s) worth 0
-    go test value told listed s l (yes e) =
-        sym (get_or-take (64 * block) last s 0 e) ∙ ap (λ (t : List ℕ). get_or t s 0) g.before ∙ get_or-take (64 * block) new s 0 e
-        ∙ a.0 test value told listed s e
-    go test value told listed s l (no e) =
-        let lane = s - 64 * block in
-        let within : lane < 64 = omega arith in
-        let place : 64 * block + lane ≡ s = omega arith in
-        let here = g.told lane within in
-        let before : get_or new s 0 ≡ value s = stays_at (64 * block) s old new (omega arith) a.1 ∙ listed s (omega arith) in
-        let lit : has lane (get_or words block 0) ≡ test s = told block h lane within ∙ ap test place in
-        (rw place at here) ∙ ap₂ (λ (x : ℕ) (b : Bool). x + cond b worth 0) before lit
+  pub added : Added worth words (block + 1) old (put_mid (64 * block) k new part)
+  unfolding last
+  added = ((λ test value told listed s l. go test value told listed s l (dec_lt s (64 * block))), rest)
+    where
+      rest : Stays (64 * (block + 1)) old last
+      rest =
+          drop-put_mid (64 * block) k new part (64 * (block + 1)) (omega arith) (omega arith) (omega arith)
+          ∙ stays_later (64 * block) (64 * (block + 1)) old new (omega arith) a.1
+
+      before : (s : ℕ) → s < 64 * block → get_or last s 0 ≡ get_or new s 0
+      before s e =
+          sym (get_or-take (64 * block) last s 0 e)
+          ∙ ap (λ (t : List ℕ). get_or t s 0) (take-put_mid_below (64 * block) k new part (64 * block) (omega arith) (omega arith))
+          ∙ get_or-take (64 * block) new s 0 e
+
+      own : (lane : ℕ) → lane < 64 → get_or last (64 * block + lane) 0 ≡ get_or part lane 0
+      own lane e =
+          sym (get_or-between last (64 * block) (64 * block + 64) lane 0 (omega arith))
+          ∙ ap (λ (t : List ℕ). get_or t lane 0) (between-put_mid (64 * block) k new part (64 * block + 64) (omega arith) (omega arith))
+
+      was : (lane : ℕ) → lane < 64 → get_or (take k (drop (64 * block) new)) lane 0 ≡ get_or new (64 * block + lane) 0
+      was lane e = get_or-take k (drop (64 * block) new) lane 0 (omega arith) ∙ get_or-drop (64 * block) new lane 0
+
+      go : (test : ℕ → Bool) (value : ℕ → ℕ) → Tells (length words) test words → Valued (64 * length words) value old → (s : ℕ)
+          → s < 64 * (block + 1) → Dec (s < 64 * block) → get_or last s 0 ≡ value s + cond (test s) worth 0
+      go test value told listed s l (yes e) = before s e ∙ a.0 test value told listed s e
+      go test value told listed s l (no e) =
+          let lane = s - 64 * block in
+          let within : lane < 64 = omega arith in
+          let place : 64 * block + lane ≡ s = omega arith in
+          let had : get_or new s 0 ≡ value s = stays_at (64 * block) s old new (omega arith) a.1 ∙ listed s (omega arith) in
+          let lit : has lane (get_or words block 0) ≡ test s = told block h lane within ∙ ap test place in
+          (rw place at (own lane within ∙ given lane within ∙ ap (λ (x : ℕ). x + cond (has lane (get_or words block 0)) worth 0) (was lane within)))
+          ∙ ap₂ (λ (x : ℕ) (b : Bool). x + cond b worth 0) had lit
+
+-- ---- the first places of a longer table
+
+pub valued_take : (count : ℕ) (value : ℕ → ℕ) (numbers : List ℕ) → Valued count value numbers → Valued count value (take count numbers)
+valued_take count value numbers listed s h = get_or-take count numbers s 0 h ∙ listed s h
+
+pub valued_front : (count : ℕ) (value : ℕ → ℕ) (numbers rest : List ℕ) → length numbers ≡ count → Valued count value numbers
+    → Valued count value (numbers ++ rest)
+valued_front count value numbers rest e listed s h =
+    let within : s < length numbers = omega arith in
+    get_or-append numbers rest 0 s within ∙ listed s h

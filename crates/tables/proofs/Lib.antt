@@ -6,7 +6,7 @@ pub mod Forbidden
 pub mod JobConditions
 pub mod JobTables
 pub mod Mirrors
-pub mod Changed
+pub mod Mapped
 pub mod MirroredMarks
 pub mod MirroredNeeds
 pub mod MirroredJobs

@@ -1,11 +1,11 @@
 -- Tables of a bit for each set, one word more. Assumes nothing.
 use mathlib.Core.Path.{◌≡◌, sym, ap, ◌∙◌}
 use mathlib.Core.Bool.{Bool, true}
-use mathlib.Core.List.{List}
+use mathlib.Core.List.{List, ◌++◌}
 use Prim.Native.Nat.{ℕ, ◌+◌, ◌-◌, ◌*◌, ◌/◌, ◌%◌, ◌≤◌, ◌<◌}
 use native.Mathlib.Omega.{arith}
-use lib.ListN.{length, get_or, drop, set}
-use lib.Seq.{get_or-set_same, get_or-set_other, get_or-drop, drop-drop, drop-set-lt}
+use lib.ListN.{length, get_or, take, drop, set, replicate, get_or-replicate, get_or-append}
+use lib.Seq.{get_or-set_same, get_or-set_other, get_or-take, get_or-drop, drop-drop, drop-set-lt}
 use borrow.Author.Count.{below_more}
 use borrow.Author.Tests.{lt-ltb}
 use Rattle.rules.specs.Sets.{has}
@@ -66,3 +66,16 @@ tells_at count test words told s h =
 
 pub every_lane : (block : ℕ) → Lanes block (λ s. true) 0xFFFF_FFFF_FFFF_FFFF
 every_lane block lane h = has_full 64 lane ∙ lt-ltb lane 64 h
+
+pub tells_every : (count : ℕ) (words : List ℕ) → words ≡ replicate count 0xFFFF_FFFF_FFFF_FFFF → Tells count (λ s. true) words
+tells_every count words e block h = rw (e, get_or-replicate {A = ℕ} count block 0xFFFF_FFFF_FFFF_FFFF 0 h) (every_lane block)
+
+-- ---- the first words of a longer table
+
+pub tells_front : (count : ℕ) (test : ℕ → Bool) (words rest : List ℕ) → length words ≡ count → Tells count test words → Tells count test (words ++ rest)
+tells_front count test words rest e told block h =
+    let within : block < length words = omega arith in
+    rw (get_or-append words rest 0 block within) (told block h)
+
+pub tells_take : (count : ℕ) (test : ℕ → Bool) (words : List ℕ) → Tells count test words → Tells count test (take count words)
+tells_take count test words told block h = rw (get_or-take count words block 0 h) (told block h)

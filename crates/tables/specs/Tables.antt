@@ -24,10 +24,9 @@ Valued count value numbers = (s : ℕ) → s < count → get_or numbers s 0 ≡ 
 abbrev pub Narrows : ℕ → (ℕ → Bool) → List ℕ → List ℕ → Type 0
 Narrows count further old new = (test : ℕ → Bool) → Tells count test old → Tells count (λ s. test s && further s) new
 
--- the sets of a block whose lanes are set get need k, worth 2 to the power k
-abbrev pub AddsBlock : ℕ → ℕ → ℕ → List ℕ → List ℕ → Type 0
-AddsBlock k block lanes old new =
-    (lane : ℕ) → lane < 64 → get_or new (64 * block + lane) 0 ≡ get_or old (64 * block + lane) 0 + cond (has lane lanes) (2 ^ k) 0
+-- the sets of a block whose lanes are set get need k, worth 2 to the power k; the lists have the places of the block
+abbrev pub AddsBlock : ℕ → ℕ → List ℕ → List ℕ → Type 0
+AddsBlock k lanes old new = (lane : ℕ) → lane < 64 → get_or new lane 0 ≡ get_or old lane 0 + cond (has lane lanes) (2 ^ k) 0
 
 -- the sets that a table of words tells of get need k, worth 2 to the power k
 abbrev pub Adds : ℕ → ℕ → List ℕ → List ℕ → List ℕ → Type 0

@@ -27,16 +27,14 @@ pub fn conditions(job: &Job, chosen: usize, table: &mut [u64; ALL_BLOCKS])
     ensures stays { Stays (blocks job.now.columns) table.old table.new }
 {
     let count = words::block_count(job.columns);
+    let words = &mut table[..count];
     if chosen < job.needs {
-        // The proof learns how many places there are where a reference to the array becomes a slice.
-        let marks: &[u16] = &job.marks;
-        let rows = job::rows::rows_of(&marks[..job.marked]);
-        words::meet(&rows[chosen], count, table);
+        let rows = job::rows::rows_of(&job.marks[..job.marked]);
+        words::meet(&rows[chosen], words);
     } else {
-        words::hold(count, table);
+        words::hold(words);
     }
-    let forbidden: &[u16] = &job.forbidden;
-    words::forbid_all(&forbidden[..job.sets], count, table);
+    words::forbid_all(&job.forbidden[..job.sets], words);
 }
 
 // The condition as above, with the columns in the other order: the set at a place of the table is the mirror of the place.
@@ -57,10 +55,8 @@ pub fn gains(job: &Job, table: &mut [u8; ALL_SETS])
 {
     let count = words::block_count(job.columns);
     let mut met = [0u64; ALL_BLOCKS];
-    let mut k = 0;
-    while k < job.needs {
+    for k in 0..job.needs {
         conditions(job, k, &mut met);
-        gained::add(&met, k, count, table);
-        k += 1;
+        gained::add(&met[..count], k, &mut table[..64 * count]);
     }
 }

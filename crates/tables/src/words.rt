@@ -5,7 +5,7 @@ ghost use Rattle.rules.specs.Lists.{any_of};
 ghost use Rattle.rules.specs.Sets.{has, contains};
 ghost use Rattle.rules.specs.Needs.{Need, meets};
 ghost use Rattle.rules.specs.Marks.{need_of, before_end};
-ghost use Rattle.tables.specs.Tables.{blocks, all_blocks, Tells, Narrows, Stays};
+ghost use Rattle.tables.specs.Tables.{blocks, all_blocks, Tells, Narrows};
 
 use crate::ALL_BLOCKS;
 use columns::ColumnSet;
@@ -13,7 +13,8 @@ use job::rows::MOST_NEED_MARKS;
 
 // How many blocks the sets of so many columns are, and never more than those of 16.
 pub fn block_count(columns: u16) -> usize
-    ensures { result ≡ blocks (min columns 16) }
+    ensures is { result ≡ blocks (min columns 16) }
+    ensures few { result ≤ all_blocks }
 {
     if columns <= 6 {
         1
@@ -25,28 +26,19 @@ pub fn block_count(columns: u16) -> usize
 }
 
 // Every set is in the table.
-pub fn hold(count: usize, table: &mut [u64])
-    requires { count ≤ length table.old }
-    ensures told { Tells count (λ s. true) table.new }
-    ensures stays { Stays count table.old table.new }
+pub fn hold(table: &mut [u64])
+    ensures { Tells (length table.old) (λ s. true) table.new }
 {
-    let mut block = 0;
-    while block < count {
-        table[block] = 0xFFFF_FFFF_FFFF_FFFF;
-        block += 1;
-    }
+    table.fill(u64::MAX);
 }
 
 // The sets that meet the need of a row are in the table.
-pub fn meet(row: &[u16; MOST_NEED_MARKS], count: usize, table: &mut [u64])
-    requires { (count ≤ all_blocks) × (count ≤ length table.old) }
-    ensures told { (v : Need) → need_of (before_end row.now) ≡ Some v → Tells count (meets v) table.new }
-    ensures stays { Stays count table.old table.new }
+pub fn meet(row: &[u16; MOST_NEED_MARKS], table: &mut [u64])
+    requires { length table.old ≤ all_blocks }
+    ensures { (v : Need) → need_of (before_end row.now) ≡ Some v → Tells (length table.old) (meets v) table.new }
 {
-    let mut block = 0;
-    while block < count {
-        table[block] = needs::met_lanes(row, block as u16);
-        block += 1;
+    for (block, word) in table.iter_mut().enumerate() {
+        *word = needs::met_lanes(row, block as u16);
     }
 }
 
@@ -54,45 +46,37 @@ pub fn meet(row: &[u16; MOST_NEED_MARKS], count: usize, table: &mut [u64])
 fn low_lanes(set: ColumnSet) -> u64
     ensures { (lane : ℕ) → lane < 64 → has lane result ≡ contains lane (set.bits % 64) }
 {
-    let mut lanes = 0xFFFF_FFFF_FFFF_FFFF;
-    let mut column = 0;
-    while column < 6 {
+    let mut lanes = u64::MAX;
+    for column in 0..6 {
         if set.has(column) {
-            lanes = lanes & needs::column_lanes(column, 0);
+            lanes &= needs::column_lanes(column, 0);
         }
-        column += 1;
     }
     lanes
 }
 
 // The sets that contain the forbidden set are taken out of the table.
-fn forbid(set: ColumnSet, count: usize, table: &mut [u64])
-    requires { (count ≤ all_blocks) × (count ≤ length table.old) }
-    ensures told { Narrows count (λ s. not (contains s set.bits)) table.old table.new }
-    ensures stays { Stays count table.old table.new }
+fn forbid(set: ColumnSet, table: &mut [u64])
+    requires { length table.old ≤ all_blocks }
+    ensures { Narrows (length table.old) (λ s. not (contains s set.bits)) table.old table.new }
 {
     let low = low_lanes(set);
     let high = ColumnSet {
         bits: set.bits / 64,
     };
-    let mut block = 0;
-    while block < count {
+    for (block, word) in table.iter_mut().enumerate() {
         if (ColumnSet { bits: block as u16 }).contains(high) {
-            table[block] = table[block] & !low;
+            *word &= !low;
         }
-        block += 1;
     }
 }
 
 // The sets that contain a forbidden set are taken out of the table.
-pub fn forbid_all(forbidden: &[u16], count: usize, table: &mut [u64])
-    requires { (count ≤ all_blocks) × (count ≤ length table.old) }
-    ensures told { Narrows count (λ s. not (any_of (contains s) forbidden.now)) table.old table.new }
-    ensures stays { Stays count table.old table.new }
+pub fn forbid_all(forbidden: &[u16], table: &mut [u64])
+    requires { length table.old ≤ all_blocks }
+    ensures { Narrows (length table.old) (λ s. not (any_of (contains s) forbidden.now)) table.old table.new }
 {
-    let mut j = 0;
-    while j < forbidden.len() {
-        forbid(ColumnSet { bits: forbidden[j] }, count, table);
-        j += 1;
+    for set in forbidden {
+        forbid(ColumnSet { bits: *set }, table);
     }
 }

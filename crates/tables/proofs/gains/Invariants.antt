@@ -1,7 +1,7 @@
 -- `tables::gains` meets its contract. Assumes nothing.
 use mathlib.Core.Path.{◌≡◌}
 use Rattle.rules.specs.Options.{Some}
-use Prim.Native.Nat.{◌-◌, ◌*◌, ◌≤◌}
+use Prim.Native.Nat.{◌*◌}
 use Rattle.rules.specs.Jobs.{Job}
 use Rattle.rules.specs.Numbers.{job_of}
 use Rattle.job.specs.Records.{numbers_in}
@@ -10,8 +10,7 @@ use Rattle.tables.proofs.JobConditions.{gain_of}
 use Rattle.tables.proofs.gains.Given as goal
 
 abbrev pub invariant-loop-k : goal.invariant-loop-k
-invariant-loop-k l = (l.k ≤ l.job.needs) ×
-    ((j : Job) → job_of (numbers_in l.job) ≡ Some j → Valued (64 * l.count) (gain_of j l.k) l.table) × Stays (64 * l.count) l.initial.table l.table
-
-abbrev pub decreases-loop-k : goal.decreases-loop-k
-decreases-loop-k l = l.job.needs - l.k
+invariant-loop-k l = record {
+  told : (j : Job) → job_of (numbers_in l.job) ≡ Some j → Valued (64 * l.count) (gain_of j l.k) l.table;
+  stays : Stays (64 * l.count) l.initial.table l.table;
+}
