@@ -7,7 +7,7 @@ ghost use Rattle.rules.specs.Sets.{most_columns, has, contains, apart, size, emp
 // How many sets of 16 columns there are: a table with a place for each set has so many.
 pub const ALL_SETS: usize = 65536;
 
-#[derive(Clone, Copy)]
+#[derive(Clone, Copy, Debug, PartialEq, Eq)]
 pub struct ColumnSet {
     pub bits: u16,
 }
@@ -17,25 +17,15 @@ impl ColumnSet {
     pub const MOST_COLUMNS: u16 = 16;
 
     // The set with no column.
-    pub const EMPTY: ColumnSet = ColumnSet { bits: 0 };
+    pub const EMPTY: Self = Self { bits: 0 };
 
     // The set of columns 0 to n-1. A set has no room past column 15, so it is all 16 for any greater n.
-    pub fn full(n: u16) -> ColumnSet
+    pub fn full(n: u16) -> Self
         ensures { result.bits ≡ full (min n most_columns) }
     {
-        ColumnSet {
-            bits: ((1u32 << ColumnSet::limited(n)) - 1) as u16,
-        }
-    }
-
-    // How many columns there are when n are asked for: n, but never more than 16.
-    fn limited(n: u16) -> u16
-        ensures { result ≡ min n most_columns }
-    {
-        if n < ColumnSet::MOST_COLUMNS {
-            n
-        } else {
-            ColumnSet::MOST_COLUMNS
+        let count = n.min(Self::MOST_COLUMNS);
+        Self {
+            bits: ((1u32 << count) - 1) as u16,
         }
     }
 
@@ -43,37 +33,37 @@ impl ColumnSet {
     pub fn has(self, i: u16) -> bool
         ensures { result ≡ has i self.bits }
     {
-        i < ColumnSet::MOST_COLUMNS && (self.bits >> i) % 2 == 1
+        i < Self::MOST_COLUMNS && (self.bits >> i) % 2 == 1
     }
 
     // Whether every column of the other set is in this one.
-    pub fn contains(self, other: ColumnSet) -> bool
+    pub fn contains(self, other: Self) -> bool
         ensures { result ≡ contains self.bits other.bits }
     {
         self.bits & other.bits == other.bits
     }
 
     // Whether the two sets have no column in common.
-    pub fn apart(self, other: ColumnSet) -> bool
+    pub fn apart(self, other: Self) -> bool
         ensures { result ≡ apart self.bits other.bits }
     {
         self.bits & other.bits == 0
     }
 
     // The columns that are in either set.
-    pub fn union(self, other: ColumnSet) -> ColumnSet
+    pub fn union(self, other: Self) -> Self
         ensures { result.bits ≡ union self.bits other.bits }
     {
-        ColumnSet {
+        Self {
             bits: self.bits | other.bits,
         }
     }
 
     // The columns of this set that are not in the other.
-    pub fn without(self, other: ColumnSet) -> ColumnSet
+    pub fn without(self, other: Self) -> Self
         ensures { result.bits ≡ without self.bits other.bits }
     {
-        ColumnSet {
+        Self {
             bits: self.bits - (self.bits & other.bits),
         }
     }
@@ -82,7 +72,7 @@ impl ColumnSet {
     pub fn count(self) -> u32
         ensures { result ≡ size self.bits }
     {
-        u16::count_ones(self.bits)
+        self.bits.count_ones()
     }
 
     // Whether the set has no column at all.
@@ -96,6 +86,6 @@ impl ColumnSet {
     pub fn within(self, n: u16) -> bool
         ensures { result ≡ within n self.bits }
     {
-        self.bits <= ColumnSet::full(n).bits
+        self.bits <= Self::full(n).bits
     }
 }

@@ -21,14 +21,12 @@ pub const END_MARK: u16 = 18;
 pub fn end_of_need(marks: &[u16], from: usize) -> usize
     ensures { result ≡ from + length (before_end (drop from marks.now)) }
 {
-    let mut at = from;
-    while at < marks.len() {
+    for at in from..marks.len() {
         if marks[at] == END_MARK {
             return at;
         }
-        at += 1;
     }
-    at
+    from.max(marks.len())
 }
 
 // A need's marks in a row. A place without a mark holds the end mark.
@@ -46,12 +44,13 @@ pub fn rows_of(marks: &[u16]) -> [[u16; MOST_NEED_MARKS]; MOST_NEEDS]
 {
     let mut rows = [[END_MARK; MOST_NEED_MARKS]; MOST_NEEDS];
     let mut from = 0;
-    let mut k = 0;
-    while k < MOST_NEEDS && from < marks.len() {
+    for row in rows.iter_mut() {
+        if marks.len() <= from {
+            break;
+        }
         let to = end_of_need(marks, from);
-        rows[k] = row_of(&marks[from..to]);
+        *row = row_of(&marks[from..to]);
         from = to + 1;
-        k += 1;
     }
     rows
 }

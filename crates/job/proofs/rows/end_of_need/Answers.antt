@@ -9,15 +9,15 @@ pub returns-then-marks-at-eq-END_MARK : goal.returns-then-marks-at-eq-END_MARK
 returns-then-marks-at-eq-END_MARK c =
     let l = c.loop-at in
     let marks = c.args.marks.now in
-    omega (arith, l.invariant, ap length (before_here marks l.at c.loop-at-test.true c.if-marks-at-eq-END_MARK.true))
+    omega (arith, l.invariant.1, ap length (before_here marks l.at c.loop-at-test.true c.if-marks-at-eq-END_MARK.true))
 
 pub loop-at-preserved : goal.loop-at-preserved
 loop-at-preserved c =
     let l = c.loop-at in
     let marks = c.args.marks.now in
-    omega (arith, l.invariant, ap length (before_later marks l.at c.loop-at-test.true c.if-marks-at-eq-END_MARK.false))
+    (omega arith, omega (arith, l.invariant.1, ap length (before_later marks l.at c.loop-at-test.true c.if-marks-at-eq-END_MARK.false)))
 
 pub returns : goal.returns
 returns c =
     let l = c.loop-at in
-    omega (arith, l.invariant, ap length (before_past c.args.marks.now l.at c.loop-at-test.false))
+    omega (arith, l.invariant.1, ap length (before_past c.args.marks.now l.at c.loop-at-test.false))
