@@ -1,6 +1,5 @@
 -- What the call for the planner's split gives in each of its ways. Assumes nothing.
-use mathlib.Core.Path.{◌≡◌, sym, subst, ◌∙◌}
-use mathlib.Core.Bool.{true, false}
+use mathlib.Core.Path.{◌≡◌, refl, sym, subst, ◌∙◌}
 use mathlib.Core.List.{List}
 use Rattle.rules.specs.Options.{None, Some}
 use Prim.Native.Nat.{ℕ, ◌*◌, ◌^◌, ◌≤◌, ◌<◌}
@@ -19,8 +18,8 @@ use Rattle.rules.specs.Plannings.{plan_room, refused, planned, planning, extract
 use Rattle.rules.proofs.Numbers.{job_fit}
 use Rattle.rules.proofs.Plans.{planned_plan, none_plan}
 use Rattle.rules.proofs.Plannings.{planning_unfit, planning_short, planning_none, planning_planned}
-use Rattle.job.specs.Records.{numbers_in, loaded}
-use Rattle.job.specs.declared.Loaded.{Loaded}
+use Rattle.job.specs.Records.{numbers_in, loaded, Sound}
+use Rattle.job.specs.declared.Job.{Job as Held}
 use Rattle.job.proofs.Records.{loaded_unfit, loaded_sound, loaded_numbers}
 use Rattle.job.proofs.Known.{Known, is_loaded}
 use Rattle.tables.specs.Tables.{blocks, Valued}
@@ -47,30 +46,33 @@ module _ (q : Numbers) (old : List ℕ) where
 
 -- ---- from what was loaded to what comes of the call
 
-module _ (q : Numbers) (old : List ℕ) (l : Loaded) (e : l ≡ loaded q) where
-  pub plans_not_fit : l.fit ≡ false → Plans q old (record { refusal = 7; count = 0 }) old
-  plans_not_fit f = plans_refused q old numbers_unfit (planning_unfit q old (loaded_unfit q l e f))
+module _ (q : Numbers) (old : List ℕ) where
+  pub plans_not_fit : None ≡ loaded q → Plans q old (record { refusal = 7; count = 0 }) old
+  plans_not_fit e = plans_refused q old numbers_unfit (planning_unfit q old (loaded_unfit q None e refl))
 
-  module _ (f : l.fit ≡ true) where
-    abbrev meant : Known q l
-    meant = is_loaded q l e f
+  module _ (held : Held) (e : Some held ≡ loaded q) where
+    abbrev meant : Known q held
+    meant = is_loaded q (Some held) e held refl
 
     pub plans_no_room : length old < plan_room → Plans q old (record { refusal = 8; count = 0 }) old
     plans_no_room h = plans_refused q old slice_too_short (planning_short q old meant.job meant.known h)
 
-    pub few : l.job.columns ≤ 16
-    few = few_columns_lem l.job (loaded_sound q l e f)
+    pub sound : Sound held
+    sound = loaded_sound q (Some held) e held refl
 
-    pub few_needs_lem : l.job.needs ≤ 8
+    pub few : held.columns ≤ 16
+    few = few_columns_lem held sound
+
+    pub few_needs_lem : held.needs ≤ 8
     few_needs_lem = meant.few
 
     -- the table that was filled says of every set of the columns which needs it meets
     module _ (room : plan_room ≤ length old) (table : List ℕ)
-        (told : (j : Job) → job_of (numbers_in l.job) ≡ Some j → Valued (64 * blocks l.job.columns) (gain j) table) where
+        (told : (j : Job) → job_of (numbers_in held) ≡ Some j → Valued (64 * blocks held.columns) (gain j) table) where
       abbrev job : Job
       job = meant.job
 
-      same_columns : l.job.columns ≡ job.columns
+      same_columns : held.columns ≡ job.columns
       same_columns = meant.columns ∙ sym (job_fit q job meant.known).columns
 
       fewer : job.columns ≤ 16
@@ -81,8 +83,8 @@ module _ (q : Numbers) (old : List ℕ) (l : Loaded) (e : l ≡ loaded q) where
 
       valued : (s : ℕ) → s < 2 ^ job.columns → in_table table s ≡ gain job s
       valued s h =
-          let known : job_of (numbers_in l.job) ≡ Some job = rw (loaded_numbers q l e f) meant.known in
-          told job known s (sets_within l.job.columns s (subst (λ (n : ℕ). s < 2 ^ n) (sym same_columns) h))
+          let known : job_of (numbers_in held) ≡ Some job = rw (loaded_numbers q (Some held) e held refl) meant.known in
+          told job known s (sets_within held.columns s (subst (λ (n : ℕ). s < 2 ^ n) (sym same_columns) h))
 
       pub empty_gains_nothing : in_table table 0 ≡ 0
       empty_gains_nothing = valued 0 (pow_pos job.columns) ∙ go (dec_lt 0 (gain job 0))
@@ -93,15 +95,15 @@ module _ (q : Numbers) (old : List ℕ) (l : Loaded) (e : l ≡ loaded q) where
 
       -- the same search, in the words of the job
       in_words : (count : ℕ) (new : List ℕ)
-          → Searched (in_table table) price_of (full l.job.columns) (full l.job.needs) l.job.needs count old new
+          → Searched (in_table table) price_of (full held.columns) (full held.needs) held.needs count old new
           → Searched (in_table table) price_of (full job.columns) (full (length job.needs)) (length job.needs) count old new
       in_words count new s =
           subst (λ (n : ℕ). Searched (in_table table) price_of (full n) (full (length job.needs)) (length job.needs) count old new) same_columns
-          (subst (λ (m : ℕ). Searched (in_table table) price_of (full l.job.columns) (full m) m count old new) (sym meant.many) s)
+          (subst (λ (m : ℕ). Searched (in_table table) price_of (full held.columns) (full m) m count old new) (sym meant.many) s)
 
       module _ (count : ℕ) (new : List ℕ)
-          (searched : Searched (in_table table) price_of (full l.job.columns) (full l.job.needs) l.job.needs count old new) where
-        pub plans_none : l.job.needs < count → Plans q old (record { refusal = 9; count = 0 }) new
+          (searched : Searched (in_table table) price_of (full held.columns) (full held.needs) held.needs count old new) where
+        pub plans_none : held.needs < count → Plans q old (record { refusal = 9; count = 0 }) new
         plans_none h =
             let s = in_words count new searched in
             let more : length job.needs < count = omega (arith, meant.many) in
@@ -109,7 +111,7 @@ module _ (q : Numbers) (old : List ℕ) (l : Loaded) (e : l ≡ loaded q) where
             subst (λ (slice : List ℕ). Plans q old (record { refusal = 9; count = 0 }) slice) (sym (s.stays more))
             (plans_refused q old no_correct_split (planning_none q old job meant.known room none_there))
 
-        pub plans_all : count ≤ l.job.needs → Plans q old (record { refusal = 0; count = count }) new
+        pub plans_all : count ≤ held.needs → Plans q old (record { refusal = 0; count = count }) new
         plans_all h =
             let found = (in_words count new searched).found (omega (arith, meant.many)) in
             let best =

@@ -1,9 +1,10 @@
 -- What the promise of the call says: one outcome for each input, which refusal comes when, what is released, and what the answers for two jobs
 -- have to do with each other. Assumes nothing.
 use mathlib.Core.Path.{◌≡◌, refl, sym, ap, ◌∙◌}
-use mathlib.Core.Bool.{true, false}
+use mathlib.Core.Bool.{true, false, cond}
 use mathlib.Core.List.Memᴰ
 use mathlib.Core.List.{List, [], ◌∷◌, Memᴰ}
+use Rattle.std.specs.Prelude.{Result, Ok, Err}
 use Rattle.rules.proofs.Options.{Some, some-injective}
 use Prim.Native.Nat.{ℕ, ◌≤◌}
 use native.Mathlib.Omega.{arith}
@@ -28,13 +29,52 @@ use Rattle.rules.proofs.SamePlans.{same_correct_plan}
 use Rattle.rules.proofs.Useful.{planned_few}
 use Rattle.rules.proofs.Demands.{less_planned}
 use Rattle.rules.proofs.Plannings.{Way, is_unfit, no_room, no_split, is_planned, planning_ways, planning_none, planning_planned, same_plan_planning}
-use Rattle.planner.specs.Promises.{planned_of, Plans}
-use Rattle.planner.specs.declared.Planned.{Planned}
+use Rattle.job.specs.declared.refusals.Refusal.{Refusal}
+use Rattle.job.specs.declared.refusals.Refusal.TheVariants.{TextTooLong, TextNotOfForm, TooMany, NameTwice, NameUnknown, EndNumberOther}
+use Rattle.job.specs.declared.refusals.Refusal.TheVariants.{NumbersUnfit, SliceTooShort, NoCorrectSplit}
+use Rattle.planner.specs.Promises.{Planned, planned_of, Plans, in_numbers}
 
 -- two outcomes that the promise allows are equal
 pub one_planning : (q : Numbers) (old : List ℕ) (r s : Planned) (first second : List ℕ) → Plans q old r first → Plans q old s second
     → (r ≡ s) × (first ≡ second)
 one_planning q old r s first second a b = (a.answered ∙ sym b.answered, a.extracts ∙ sym b.extracts)
+
+-- ---- answers in numbers
+
+-- the refusal that has the number
+named : ℕ → Refusal
+named number =
+    cond (eqb number 1) TextTooLong (cond (eqb number 2) TextNotOfForm (cond (eqb number 3) TooMany (cond (eqb number 4) NameTwice
+    (cond (eqb number 5) NameUnknown (cond (eqb number 6) EndNumberOther (cond (eqb number 7) NumbersUnfit
+    (cond (eqb number 8) SliceTooShort NoCorrectSplit)))))))
+
+-- the answer that has these numbers
+answer_named : Planned → Result ℕ Refusal
+answer_named p = cond (eqb p.refusal 0) (Ok p.count) (Err (named p.refusal))
+
+numbers_kept : (r : Result ℕ Refusal) → answer_named (in_numbers r) ≡ r
+unfolding answer_named named
+numbers_kept (Ok count) = refl
+numbers_kept (Err TextTooLong) = refl
+numbers_kept (Err TextNotOfForm) = refl
+numbers_kept (Err TooMany) = refl
+numbers_kept (Err NameTwice) = refl
+numbers_kept (Err NameUnknown) = refl
+numbers_kept (Err EndNumberOther) = refl
+numbers_kept (Err NumbersUnfit) = refl
+numbers_kept (Err SliceTooShort) = refl
+numbers_kept (Err NoCorrectSplit) = refl
+
+-- no two answers have the same numbers
+pub in_numbers-injective : (r s : Result ℕ Refusal) → in_numbers r ≡ in_numbers s → r ≡ s
+in_numbers-injective r s e = sym (numbers_kept r) ∙ ap answer_named e ∙ numbers_kept s
+
+-- two answers that the promise allows are equal
+pub one_answer : (q : Numbers) (old : List ℕ) (r s : Result ℕ Refusal) (first second : List ℕ) → Plans q old (in_numbers r) first
+    → Plans q old (in_numbers s) second → (r ≡ s) × (first ≡ second)
+one_answer q old r s first second a b =
+    let one = one_planning q old (in_numbers r) (in_numbers s) first second a b in
+    (in_numbers-injective r s one.0, one.1)
 
 -- what a call that is not refused has planned and written
 record Released (old : List ℕ) (job : Job) (r : Planned) (new : List ℕ) (split : List ℕ) : Type 0 where
