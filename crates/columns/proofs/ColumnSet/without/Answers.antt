@@ -1,12 +1,8 @@
 -- `columns::ColumnSet::without` meets its contract. Assumes nothing.
 use mathlib.Core.Path.{sym}
 use native.Mathlib.Omega.{arith}
-use lib.Bits.{and_le_l}
 use Rattle.rules.proofs.Sets.{without_bits}
 use Rattle.columns.proofs.ColumnSet.without.Goals as goal
-
-pub overflow_sub-result : goal.overflow_sub-result
-overflow_sub-result c = search and_le_l
 
 pub returns : goal.returns
 returns c =
