@@ -1,10 +1,12 @@
--- Lines that the number at the end counts: counted line by line, and in a text of the form. Assumes nothing.
-use mathlib.Core.Path.{◌≡◌, refl, sym, ap, ◌∙◌}
-use mathlib.Core.Bool.{true, false}
-use mathlib.Core.List.{List, Memᴰ}
-use Prim.Native.Nat.{ℕ, ◌+◌, ◌-◌, ◌≤◌, ◌<◌}
+-- Lines that the number at the end counts: counted place by place, and in a text of the form. Assumes nothing.
+use mathlib.Core.Path.{◌≡◌, refl, ap, ◌∙◌}
+use mathlib.Core.Bool.{Bool, true, false, ◌&&◌}
+use mathlib.Core.List.{List, [], ◌∷◌}
+use Prim.Native.Nat.{ℕ, zero, suc, ◌+◌, ◌-◌, ◌≤◌}
+use native.Mathlib.Numerals.{add-one}
 use native.Mathlib.Omega.{arith}
 use lib.ListN.{length, length-append, length-map}
+use Rattle.std.specs.List.{filter, range_with_len}
 use Rattle.rules.specs.Lists.{keep, up_from}
 use Rattle.rules.specs.Diagrams.{leaf}
 use Rattle.rules.specs.Signs.{Says}
@@ -12,7 +14,6 @@ use Rattle.rules.specs.Names.{Spot}
 use Rattle.rules.specs.Texts.{Line, Sheet, OfForm}
 use Rattle.rules.specs.Sheets.{lines_in}
 use Rattle.rules.specs.Positions.{line_begins, line_starts}
-use Rattle.rules.proofs.Lists.{not_holds, in_keep, in_up_from, keep_none}
 use Rattle.rules.proofs.ListTests.{keep_append}
 use Rattle.rules.proofs.Counting.{keep_one}
 use Rattle.rules.proofs.LineStarts.{begins_first, begins_behind, starts_append, starts_line}
@@ -22,7 +23,7 @@ use Rattle.naming.specs.declared.sections.Section.{Section}
 use Rattle.naming.specs.declared.sections.Section.TheVariants.{Columns, Forbid, Need, End}
 use Rattle.naming.proofs.Walks.{words_line}
 use Rattle.naming.proofs.KeyPlaces.{key_line, number_line}
-use Rattle.naming.proofs.CountedKeys.{counted_inside, key_counted}
+use Rattle.naming.proofs.CountedKeys.{key_counted}
 use Rattle.naming.proofs.Laid.{laid_columns, laid_forbids, laid_needs}
 use Rattle.advice.specs.CountedLines.{counted_in, counted_lines}
 
@@ -46,48 +47,31 @@ module _ (s : List ℕ) where
   unfolding counted_in
   counted_line p r here ends = rw (starts_line s p r here ends.forward ends.goes_on) (keep_one (counted_at s) p)
 
-  -- past the end there is none
-  counted_past : (q : ℕ) → counted_in s (length s) q ≡ 0
-  unfolding counted_in line_starts
-  counted_past q = ap length (keep_none (counted_at s) (line_starts s (length s) q) other)
-    where
-      other : (p : ℕ) → Memᴰ p (line_starts s (length s) q) → counted_at s p ≡ false
-      other p m =
-          let (late, below) = in_up_from (length s) (q - length s) (in_keep (line_begins s) p (up_from (length s) (q - length s)) m).0 in
-          not_holds (counted_at s p) λ e. omega (arith, counted_inside s p e)
+-- ---- place by place
 
--- ---- line by line
+range_from : (a n : ℕ) → range_with_len a n ≡ up_from a n
+unfolding up_from
+range_from a zero = refl
+range_from a (suc n) = ap (λ (l : List ℕ). a ∷ l) (rw add-one (range_from (suc a) n))
 
--- so many of the lines before a place are counted, and at the place a line begins or the text has ended
-pub record Counted (s : List ℕ) (at lines : ℕ) : Type 0 where
-  pub begins : at < length s → line_begins s at ≡ true
-  pub few : lines ≤ at
-  pub is : lines ≡ counted_in s 0 at
+-- what passes both tests is what passes one and then the other
+kept_both : (p q : ℕ → Bool) (xs : List ℕ) → filter (λ i. p i && q i) xs ≡ keep q (keep p xs)
+unfolding keep
+kept_both p q [] = refl
+kept_both p q (x ∷ xs) = go (p x) (q x) refl refl (kept_both p q xs)
+  where
+    go : (b c : Bool) → p x ≡ b → q x ≡ c → filter (λ i. p i && q i) xs ≡ keep q (keep p xs)
+        → filter (λ i. p i && q i) (x ∷ xs) ≡ keep q (keep p (x ∷ xs))
+    go true true e f more = rw (e, f) (ap (λ (l : List ℕ). x ∷ l) more)
+    go true false e f more = rw (e, f) more
+    go false c e f more = rw e more
 
--- before the first
-pub counted_none : (s : List ℕ) → Counted s 0 0
-counted_none s = record { begins = λ h. begins_first s; few = omega arith; is = sym (counted_nothing s 0) }
-
-module _ {s : List ℕ} {at lines r : ℕ} (c : Counted s at lines) (inside : at < length s) (ends : Ends s at r) where
-  next_begins : r + 1 < length s → line_begins s (r + 1) ≡ true
-  next_begins h = begins_behind s r (ends.stops (omega arith))
-
-  next_counted : counted_in s 0 (r + 1) ≡ lines + leaf (counted_at s at)
-  next_counted =
-      omega (arith, counted_append s 0 at (r + 1) (omega arith) (omega (arith, ends.forward)), counted_line s at r (c.begins inside) ends, c.is)
-
-  -- one that is counted
-  pub counted_more : counted_at s at ≡ true → Counted s (r + 1) (lines + 1)
-  counted_more e = record { begins = next_begins; few = omega (arith, c.few, ends.forward); is = sym (rw e at next_counted) }
-
-  -- another
-  pub counted_other : counted_at s at ≡ false → Counted s (r + 1) lines
-  counted_other e =
-      record { begins = next_begins; few = omega (arith, c.few, ends.forward); is = omega (arith, rw e at next_counted) }
-
--- behind the last
-pub counted_all : {s : List ℕ} {at lines : ℕ} → Counted s at lines → length s ≤ at → lines ≡ counted_lines s
-counted_all {s} {at} c h = omega (arith, c.is, counted_append s 0 (length s) at (omega arith) h, counted_past s at)
+-- the places at which a line begins that is counted
+pub lines_kept : (s : List ℕ) → length (filter (λ p. line_begins s p && counted_at s p) (range_with_len 0 (length s))) ≡ counted_lines s
+unfolding counted_in line_starts
+lines_kept s =
+    let all : length s - 0 ≡ length s = omega arith in
+    rw (range_from 0 (length s), all) (ap length (kept_both (line_begins s) (counted_at s) (up_from 0 (length s))))
 
 -- ---- in a text of the form
 

@@ -1,64 +1,53 @@
 -- Lines and columns counted byte by byte. Assumes nothing.
 use mathlib.Core.Path.{◌≡◌, sym, ap, ◌∙◌}
 use mathlib.Core.List.{List}
-use Prim.Native.Nat.{ℕ, ◌+◌, ◌≤◌, ◌<◌}
+use Prim.Native.Nat.{ℕ, ◌+◌, ◌≤◌, ◌<◌, min}
 use native.Mathlib.Omega.{arith}
-use lib.ListN.{length}
+use native.Mathlib.Decide.{dec_lt}
+use lib.ListN.{length, take}
+use lib.Seq.{take_all, take-length}
 use borrow.Author.Tests.{ne_eqb}
 use Rattle.rules.specs.Signs.{byte_at, line_end}
 use Rattle.rules.specs.Positions.{Position, behind, position_of}
-use Rattle.rules.proofs.Positions.{behind_none, behind_more, behind_end}
+use Rattle.rules.proofs.Positions.{behind_none, behind_more}
+use Rattle.advice.specs.Positions.{position_in}
+use Rattle.advice.specs.declared.position.Position.{Position as Found}
 
-abbrev pub at : ℕ → ℕ → Position
-at line column = record { line = line; column = column }
+-- the bytes before a place, which may be past the end
+pub before_place : (s : List ℕ) (place : ℕ) → take (min place (length s)) s ≡ take place s
+before_place s place = go (dec_lt place (length s))
+  where
+    go : Dec (place < length s) → take (min place (length s)) s ≡ take place s
+    go (yes h) = let all : min place (length s) ≡ place = omega arith in rw all
+    go (no n) = let all : min place (length s) ≡ length s = omega arith in rw (all, take-length s, take_all place s (omega arith))
 
--- the place i, which is not past another, is at this line and column
-pub record Located (s : List ℕ) (place i line column : ℕ) : Type 0 where
-  pub within : i ≤ length s
-  pub before : i ≤ place
-  pub lines : line ≤ i + 1
-  pub columns : column ≤ i + 1
-  pub is : at line column ≡ position_of s i
+-- behind the first i bytes one is at this line and column
+pub record Located (s : List ℕ) (i : ℕ) (found : Found) : Type 0 where
+  pub lines : found.line ≤ i + 1
+  pub columns : found.column ≤ i + 1
+  pub is : position_in found ≡ position_of s i
 
--- the first place
-pub located_first : (s : List ℕ) (place : ℕ) → Located s place 0 1 1
-located_first s place = record { within = omega arith; before = omega arith; lines = omega arith; columns = omega arith; is = sym (behind_none s) }
+-- at the first place
+pub located_first : (s : List ℕ) → Located s 0 (record { line = 1; column = 1 })
+located_first s = record { lines = omega arith; columns = omega arith; is = sym (behind_none s) }
 
-module _ {s : List ℕ} {place i line column : ℕ} (l : Located s place i line column) where
-  -- the place itself
-  pub located_there : i ≡ place → at line column ≡ position_of s place
-  located_there e = l.is ∙ ap (position_of s) e
+module _ {s : List ℕ} {i : ℕ} {found : Found} (l : Located s i found) where
+  -- behind all bytes before a place
+  pub located_all : (text : List ℕ) (place : ℕ) → s ≡ take place text → length s ≤ i → position_in found ≡ position_of text place
+  unfolding position_of
+  located_all text place e h = l.is ∙ rw (take_all i s h, e)
 
-  -- past the end
-  pub located_end : length s ≤ i → at line column ≡ position_of s place
-  located_end h =
-      let e : i ≡ length s = omega (arith, l.within) in
-      l.is ∙ ap (position_of s) e ∙ sym (behind_end s place (omega (arith, l.before)))
-
-  module _ (h : i < length s) (other : i ≡ place → ⊥) where
-    located_next : position_of s (i + 1) ≡ behind (at line column) (byte_at s i)
+  module _ (h : i < length s) where
+    located_next : position_of s (i + 1) ≡ behind (position_in found) (byte_at s i)
     located_next = behind_more s i h ∙ ap (λ (p : Position). behind p (byte_at s i)) (sym l.is)
 
     -- behind a line's end
-    pub located_line : byte_at s i ≡ line_end → Located s place (i + 1) (line + 1) 1
+    pub located_line : byte_at s i ≡ line_end → Located s (i + 1) (record { line = found.line + 1; column = 1 })
     unfolding behind
-    located_line e =
-        record {
-          within = omega arith;
-          before = omega (arith, l.before);
-          lines = omega (arith, l.lines);
-          columns = omega arith;
-          is = sym (located_next ∙ rw e);
-        }
+    located_line e = record { lines = omega (arith, l.lines); columns = omega arith; is = sym (located_next ∙ rw e) }
 
     -- behind any other byte
-    pub located_column : (byte_at s i ≡ line_end → ⊥) → Located s place (i + 1) line (column + 1)
+    pub located_column : (byte_at s i ≡ line_end → ⊥) → Located s (i + 1) (record { line = found.line; column = found.column + 1 })
     unfolding behind
     located_column e =
-        record {
-          within = omega arith;
-          before = omega (arith, l.before);
-          lines = omega (arith, l.lines);
-          columns = omega (arith, l.columns);
-          is = sym (located_next ∙ rw (ne_eqb (byte_at s i) line_end e));
-        }
+        record { lines = omega (arith, l.lines); columns = omega (arith, l.columns); is = sym (located_next ∙ rw (ne_eqb (byte_at s i) line_end e)) }

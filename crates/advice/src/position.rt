@@ -6,7 +6,7 @@ ghost use Rattle.advice.specs.Positions.{position_in};
 use naming::signs::LINE_END;
 
 // The line, and the byte in the line, both counted from 1.
-#[derive(Clone, Copy)]
+#[derive(Clone, Copy, Debug, PartialEq, Eq)]
 pub struct Position {
     pub line: usize,
     pub column: usize,
@@ -16,20 +16,15 @@ pub struct Position {
 pub fn position_of(text: &[u8], place: usize) -> Position
     ensures { position_in result ≡ position_of text.now place }
 {
-    let mut line = 1;
-    let mut column = 1;
-    let mut i = 0;
-    while i < text.len() {
-        if i == place {
-            return Position { line, column };
-        }
-        if text[i] == LINE_END {
-            line += 1;
-            column = 1;
+    let before = &text[..place.min(text.len())];
+    let mut position = Position { line: 1, column: 1 };
+    for sign in before {
+        if *sign == LINE_END {
+            position.line += 1;
+            position.column = 1;
         } else {
-            column += 1;
+            position.column += 1;
         }
-        i += 1;
     }
-    Position { line, column }
+    position
 }

@@ -73,7 +73,11 @@ pub adds_all : (words : List ℕ) (i next last : ℕ) (page new : List ℕ) → 
     → Adds words next page last new
 adds_all words i next last page new h a = rw (take_all i words h) at a
 
--- so of a lent page that holds its next place
+-- ---- the same of a lent page that holds its next place
+
+pub puts_nothing : {page : Page} → Puts [] page page
+puts_nothing {page} = record { same_reference = refl; adds = adds_nothing page.end page.places.now }
+
 pub puts_both : {first second : List ℕ} {before between after : Page} → Puts first before between → Puts second between after
     → Puts (first ++ second) before after
 puts_both a b = record { same_reference = b.same_reference ∙ a.same_reference; adds = adds_both a.adds b.adds }

@@ -1,22 +1,23 @@
--- `advice::counted::counted_lines` meets its contract. The invariant: so many lines before the place are counted, and at it a line begins.
--- Assumes nothing.
-use mathlib.Core.Path.{sym, ◌∙◌}
-use Rattle.advice.proofs.CountedLines.{counted_none, counted_more, counted_other, counted_all}
+-- `advice::counted::counted_lines` meets its contract. Assumes nothing.
+use mathlib.Core.Path.{◌∙◌}
+use mathlib.Core.Bool.{◌&&◌}
+use Prim.Native.Nat.{ℕ}
+use native.Mathlib.Omega.{arith}
+use lib.ListN.{length}
+use borrow.Author.Tests.{tests}
+use Rattle.std.proofs.Common.{rules}
+use Rattle.std.proofs.lemmas.Iterator.{YieldsList-from_range}
+use Rattle.std.proofs.lemmas.Iterator.Consumers.{YieldsList-from_filter, count_from_yields_List}
+use Rattle.rules.specs.Positions.{line_begins}
+use Rattle.naming.specs.Sections.{counted_at}
+use Rattle.advice.proofs.CountedLines.{lines_kept}
 use Rattle.advice.proofs.counted.counted_lines.Goals as goal
-use Rattle.advice.proofs.counted.counted_lines.Goals.{then-counted_at, else-counted_at}
-
-pub loop-at-init : goal.loop-at-init
-loop-at-init c = counted_none _
-
-pub loop-at-preserved : goal.loop-at-preserved
-loop-at-preserved c =
-    let inv = c.loop-at.invariant in
-    let more = c.loop-at-test.true in
-    let ends = c.line_end-at.ensures in
-    elim c.if-counted_at.branch [
-      | then-counted_at w ↦ rw w.lines-is (counted_more inv more ends (sym c.counted_at.ensures ∙ w.if-counted_at.true))
-      | else-counted_at w ↦ rw w.lines-is (counted_other inv more ends (sym c.counted_at.ensures ∙ w.if-counted_at.false))
-    ]
 
 pub returns : goal.returns
-returns c = counted_all c.loop-at.invariant c.loop-at-test.false
+returns c =
+    let s = c.args.text.now in
+    count_from_yields_List _ _ c.count.ensures.ran
+    (YieldsList-from_filter _ (λ (p : ℕ). line_begins s p && counted_at s p) (YieldsList-from_range 0 (length s) (length s) (search rules) (omega arith))
+    c.filter.ensures.closure
+    (λ x r q k. search (rules, tests)))
+    ∙ lines_kept s

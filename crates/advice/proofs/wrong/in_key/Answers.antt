@@ -1,13 +1,20 @@
--- `advice::wrong::in_key` meets its contract. The invariant: no = stands from the line's beginning up to the place i. Assumes nothing.
-use mathlib.Core.Path.{sym}
-use native.Mathlib.Omega.{arith}
-use Rattle.advice.proofs.Keyed.{key_all, key_other}
+-- `advice::wrong::in_key` meets its contract. Assumes nothing.
+use mathlib.Core.Path.{◌∙◌}
+use mathlib.Core.Bool.{not}
+use Prim.Native.Nat.{ℕ, ◌-◌}
+use lib.Dec.{eqb}
+use borrow.Author.Tests.{tests}
+use Rattle.std.proofs.Common.{rules}
+use Rattle.std.proofs.lemmas.Iterator.{YieldsList-from_slice}
+use Rattle.std.proofs.lemmas.Iterator.Search.{all_from_yields_List}
+use Rattle.rules.specs.Signs.{piece}
+use Rattle.rules.proofs.Library.{all_every}
+use Rattle.advice.specs.Sentences.{equals, in_key}
 use Rattle.advice.proofs.wrong.in_key.Goals as goal
 
-pub returns-then-text-i-eq61 : goal.returns-then-text-i-eq61
-returns-then-text-i-eq61 c = sym (key_other _ _ _ c.requires _ c.loop-i.invariant.0 c.loop-i-test.true c.if-text-i-eq61.true)
-
 pub returns : goal.returns
+unfolding in_key
 returns c =
-    let loop = c.loop-i in
-    sym (key_all _ _ _ c.requires λ k l h. loop.invariant.2 k l (omega (arith, loop.invariant.1, c.loop-i-test.false)))
+    let line = piece c.args.text.now (c.args.place - (c.args.column - 1)) c.args.place in
+    all_from_yields_List (λ (b : ℕ). not (eqb b equals)) _ _ _ c.all.ensures.ran (YieldsList-from_slice line cc) (λ x b q k. search (rules, tests))
+    ∙ all_every _ line

@@ -1,20 +1,23 @@
--- `advice::wrong::name_full` meets its contract. The invariant: the bytes up to the place i are all in names. Assumes nothing.
-use mathlib.Core.Path.{sym, ◌∙◌}
-use native.Mathlib.Omega.{arith}
-use Rattle.advice.proofs.FullNames.{full_none, full_other, full_all}
+-- `advice::wrong::name_full` meets its contract. Assumes nothing.
+use mathlib.Core.Path.{◌∙◌}
+use Prim.Native.Nat.{◌-◌}
+use borrow.Author.Tests.{tests, le-leb, lt-leb}
+use Rattle.std.proofs.Common.{rules}
+use Rattle.std.proofs.lemmas.Iterator.{YieldsList-from_slice}
+use Rattle.std.proofs.lemmas.Iterator.Search.{all_from_yields_List}
+use Rattle.rules.specs.Signs.{piece, in_name}
+use Rattle.rules.specs.Names.{most_name_bytes}
+use Rattle.rules.proofs.Library.{all_every}
+use Rattle.advice.specs.Sentences.{name_full}
 use Rattle.advice.proofs.wrong.name_full.Goals as goal
 
-pub returns-then-place-lt-MOST_NAME_BYTES : goal.returns-then-place-lt-MOST_NAME_BYTES
-returns-then-place-lt-MOST_NAME_BYTES c = sym (full_none _ _ c.if-place-lt-MOST_NAME_BYTES.true)
+pub returns-then-place-ge-MOST_NAME_BYTES : goal.returns-then-place-ge-MOST_NAME_BYTES
+unfolding name_full
+returns-then-place-ge-MOST_NAME_BYTES c =
+    let before = piece c.args.text.now (c.args.place - most_name_bytes) c.args.place in
+    rw (le-leb most_name_bytes c.args.place c.if-place-ge-MOST_NAME_BYTES.true)
+    (all_from_yields_List in_name _ _ _ c.all.ensures.ran (YieldsList-from_slice before cc) (λ x b q k. search (rules, tests)) ∙ all_every _ before)
 
-pub returns-then-not-in_name : goal.returns-then-not-in_name
-returns-then-not-in_name c =
-    let loop = c.loop-i in
-    let other = sym c.in_name.ensures ∙ c.if-not-in_name.true in
-    sym (full_other _ _ c.if-place-lt-MOST_NAME_BYTES.false c.requires _ loop.invariant.0 c.loop-i-test.true other)
-
-pub returns : goal.returns
-returns c =
-    let loop = c.loop-i in
-    sym (full_all _ _ c.if-place-lt-MOST_NAME_BYTES.false c.requires λ k l h. loop.invariant.2 k l
-    (omega (arith, loop.invariant.1, c.loop-i-test.false)))
+pub returns-else-place-ge-MOST_NAME_BYTES : goal.returns-else-place-ge-MOST_NAME_BYTES
+unfolding name_full
+returns-else-place-ge-MOST_NAME_BYTES c = rw (lt-leb most_name_bytes c.args.place c.if-place-ge-MOST_NAME_BYTES.false)
