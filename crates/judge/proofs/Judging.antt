@@ -1,6 +1,6 @@
 -- What the searches of the judge find, one after the other, is the answer for the numbers. Assumes nothing.
 use mathlib.Core.Path.{◌≡◌, sym, ◌∙◌}
-use mathlib.Core.Bool.{false, not}
+use mathlib.Core.Bool.{not}
 use mathlib.Core.List.{List}
 use Rattle.rules.specs.Options.{Option, None, Some}
 use Prim.Native.Nat.{ℕ}
@@ -14,13 +14,13 @@ use Rattle.rules.proofs.Numbers.{unfit_none, job_fit}
 use Rattle.rules.proofs.Verdicts.{judged_job, judged_unfit}
 use Rattle.rules.proofs.FirstFaults.{says_improper, says_forbids, says_shares, says_unmet, says_right, unfit_improper}
 use Rattle.job.specs.Records.{loaded}
-use Rattle.job.specs.declared.Loaded.{Loaded}
+use Rattle.job.specs.declared.Job.{Job as Held}
 use Rattle.job.proofs.Records.{loaded_unfit}
 
 -- ---- what loading tells
 
-pub not_loaded : (q : Numbers) (split : List ℕ) (l : Loaded) → l ≡ loaded q → l.fit ≡ false → judged q split ≡ unfit_job
-not_loaded q split l e f = judged_unfit q split (unfit_none q (loaded_unfit q l e f))
+pub not_loaded : (q : Numbers) (split : List ℕ) (answer : Option Held) → answer ≡ loaded q → answer ≡ None → judged q split ≡ unfit_job
+not_loaded q split answer e none = judged_unfit q split (unfit_none q (loaded_unfit q answer e none))
 
 -- ---- what the searches tell
 

@@ -1,16 +1,15 @@
 // The judge: the first fault of a split, or that it is right.
 #![tactic(auto)]
 
-use job::fitness::Found;
-use job::{fitness, rows};
-use pairs::Pair;
+use job::{Numbers, fitness, rows};
 
 mod pairs; // pairs.rt: extracts with forbidden sets, extracts that share a column
 mod unmet; // unmet.rt: needs that no extract meets
 
+ghost use Rattle.job.specs.Given.{given};
 ghost use Rattle.judge.specs.Promises.{Judges};
 
-#[derive(Clone, Copy)]
+#[derive(Clone, Copy, Debug, PartialEq, Eq)]
 pub enum Verdict {
     Unfit, // refusal 7: the numbers are unfit
     Improper(usize), // extract i is empty or names a missing column
@@ -22,28 +21,23 @@ pub enum Verdict {
 
 // Judges a list of numbers as the split of a job. The first fault is answered, in the order of the answers, with the smallest indices.
 // It doesn't say whether fewer extracts would do.
-pub fn judge(columns: usize, forbidden: &[u16], marks: &[u16], split: &[u16]) -> Verdict
-    ensures { Judges (record { columns = columns; forbidden = forbidden.now; marks = marks.now }) split.now result }
+pub fn judge(numbers: Numbers, split: &[u16]) -> Verdict
+    ensures { Judges (given numbers.entry) split.now result }
 {
-    let loaded = job::load(columns, forbidden, marks);
-    if !loaded.fit {
+    let Some(job) = job::load(numbers) else {
         return Verdict::Unfit;
-    }
-    let job = loaded.job;
-    let improper = fitness::first_unfit_set(job.columns, split);
-    if let Found::At(i) = improper {
+    };
+    if let Some(i) = fitness::first_unfit_set(job.columns, split) {
         return Verdict::Improper(i);
     }
-    let broken = pairs::first_forbidden(forbidden, split);
-    if let Pair::At(i, j) = broken {
+    if let Some((i, j)) = pairs::first_forbidden(numbers.forbidden, split) {
         return Verdict::Forbids(i, j);
     }
-    let shared = pairs::first_sharing(split);
-    if let Pair::At(i, j) = shared {
+    if let Some((i, j)) = pairs::first_sharing(split) {
         return Verdict::Shares(i, j);
     }
-    let unmet = unmet::first_unmet(rows::rows_of(marks), job.needs, split);
-    if let Found::At(k) = unmet {
+    let rows = rows::rows_of(numbers.marks);
+    if let Some(k) = unmet::first_unmet(&rows[..job.needs], split) {
         return Verdict::Unmet(k);
     }
     Verdict::Right

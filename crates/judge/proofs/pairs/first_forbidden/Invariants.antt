@@ -1,13 +1,8 @@
 -- `judge::pairs::first_forbidden` meets its contract. Assumes nothing.
 use mathlib.Core.Path.{◌≡◌}
-use Prim.Native.Nat.{◌≤◌, ◌-◌}
-use lib.ListN.{length}
 use Rattle.rules.specs.Jobs.{Job}
 use Rattle.rules.proofs.FirstFaults.{SafeBefore}
 use Rattle.judge.proofs.pairs.first_forbidden.Given as goal
 
 abbrev pub invariant-loop-i : goal.invariant-loop-i
-invariant-loop-i l = (l.i ≤ length l.split) × ((job : Job) → job.forbidden ≡ l.forbidden → SafeBefore job l.split l.i)
-
-abbrev pub decreases-loop-i : goal.decreases-loop-i
-decreases-loop-i l = length l.split - l.i
+invariant-loop-i l = (job : Job) → job.forbidden ≡ l.forbidden → SafeBefore job l.split l.i
