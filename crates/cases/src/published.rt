@@ -12,38 +12,38 @@ pub fn run(rt: &impl Print) -> io::Result<()> {
 fn census_splits(rt: &impl Print) -> io::Result<()> {
     census(
         rt,
-        b"000, Figure 2: Birth with ZIP, Job with Employer",
+        "000, Figure 2: Birth with ZIP, Job with Employer",
         &[12, 48],
     )?;
-    census(rt, b"000, Figure 2 merged: against c4", &[60])?;
-    census(rt, b"000, Figure 2 without Employer", &[12, 16])
+    census(rt, "000, Figure 2 merged: against c4", &[60])?;
+    census(rt, "000, Figure 2 without Employer", &[12, 16])
 }
 
 fn patients_splits(rt: &impl Print) -> io::Result<()> {
     patients(
         rt,
-        b"001, Figure 3.2: Birth, ZIP, Disease; Job, InsRate",
+        "001, Figure 3.2: Birth, ZIP, Disease; Job, InsRate",
         &[148, 96],
     )?;
     patients(
         rt,
-        b"001, locally minimal: Name; Race, Disease; Job, InsRate",
+        "001, locally minimal: Name; Race, Disease; Job, InsRate",
         &[2, 136, 96],
     )?;
-    patients(rt, b"001, Name with Disease: against c3", &[130, 96])?;
-    patients(rt, b"001, Figure 3.2 merged: against c5", &[244])
+    patients(rt, "001, Name with Disease: against c3", &[130, 96])?;
+    patients(rt, "001, Figure 3.2 merged: against c5", &[244])
 }
 
 fn volunteers_splits(rt: &impl Print) -> io::Result<()> {
-    volunteers(rt, b"01: duty, illness; steward, born, panel", &[24, 35])?;
+    volunteers(rt, "01: duty, illness; steward, born, panel", &[24, 35])?;
     volunteers(
         rt,
-        b"01, with the home address: against the first set",
+        "01, with the home address: against the first set",
         &[24, 39],
     )
 }
 
-fn census(rt: &impl Print, case: &[u8], split: &[u16]) -> io::Result<()> {
+fn census(rt: &impl Print, case: &str, split: &[u16]) -> io::Result<()> {
     verdict::write(
         rt,
         case,
@@ -56,7 +56,7 @@ fn census(rt: &impl Print, case: &[u8], split: &[u16]) -> io::Result<()> {
     )
 }
 
-fn patients(rt: &impl Print, case: &[u8], split: &[u16]) -> io::Result<()> {
+fn patients(rt: &impl Print, case: &str, split: &[u16]) -> io::Result<()> {
     verdict::write(
         rt,
         case,
@@ -69,7 +69,7 @@ fn patients(rt: &impl Print, case: &[u8], split: &[u16]) -> io::Result<()> {
     )
 }
 
-fn volunteers(rt: &impl Print, case: &[u8], split: &[u16]) -> io::Result<()> {
+fn volunteers(rt: &impl Print, case: &str, split: &[u16]) -> io::Result<()> {
     verdict::write(
         rt,
         case,

@@ -1,60 +1,136 @@
-// Slices that are lent to a call: what they hold before it, and what they hold after.
-use std::num::{wrapping_add_usize, wrapping_sub_usize};
-use worked::checksum;
+// The slices that are lent to the calls of the diagram, and how a line shows what they hold after a call.
+ghost use Rattle.std.specs.Prelude.{◌≤◌};
+
+use std::fmt::{self, Display, Formatter, Write};
+use worked::checksum::Checksum;
+use worked::lent::Lent;
 
 // What every place holds before a call. No node has this number, and a path only if it sets all 16 columns alike.
-pub const BEFORE: u16 = 65535;
+const BEFORE: u16 = 65535;
+
+// How many nodes a diagram can have, and how many places a case lends for paths at most.
+pub const NODES: usize = 8445;
+
+pub const PATHS: usize = 16384;
 
 // A line shows the first places of a slice, up to so many.
 const MOST_SHOWN: usize = 16;
 
-// The number at a place, or what it would be before a call if there is no such place.
-pub fn at(numbers: &[u16], place: usize) -> usize {
-    if place < numbers.len() {
-        wide(numbers[place])
-    } else {
-        wide(BEFORE)
+// How many places of each slice a case lends.
+#[derive(Clone, Copy)]
+pub struct Rooms {
+    pub column: usize,
+    pub low: usize,
+    pub high: usize,
+    pub ones: usize,
+    pub zeros: usize,
+    ghost within: { (column ≤ 8445) × (low ≤ 8445) × (high ≤ 8445) × (ones ≤ 16384) × (zeros ≤ 16384) },
+}
+
+impl Rooms {
+    // As many places as any diagram needs, and so many for each of the two numbers of a path.
+    pub fn for_paths(ones: usize, zeros: usize) -> Self
+        requires { (ones ≤ 16384) × (zeros ≤ 16384) }
+    {
+        Self {
+            column: NODES,
+            low: NODES,
+            high: NODES,
+            ones,
+            zeros,
+        }
+    }
+
+    // So many places for each of the three numbers of a node.
+    pub fn for_nodes(column: usize, low: usize, high: usize) -> Self
+        requires { (column ≤ 8445) × (low ≤ 8445) × (high ≤ 8445) }
+    {
+        Self {
+            column,
+            low,
+            high,
+            ones: 16,
+            zeros: 16,
+        }
     }
 }
 
-fn wide(number: u16) -> usize {
-    number as usize
+// The slices for the nodes, and those for the paths.
+#[derive(Drop)]
+pub struct Nodes {
+    pub column: Lent<NODES, BEFORE>,
+    pub low: Lent<NODES, BEFORE>,
+    pub high: Lent<NODES, BEFORE>,
 }
 
-fn one_if_before(number: u16) -> usize {
-    if number == BEFORE { 1 } else { 0 }
+#[derive(Drop)]
+pub struct Paths {
+    pub ones: Lent<PATHS, BEFORE>,
+    pub zeros: Lent<PATHS, BEFORE>,
 }
 
-// How many places hold what they held before.
-pub fn untouched(numbers: &[u16]) -> usize {
-    let mut count = 0;
-    let mut i = 0;
-    while i < numbers.len() {
-        count = wrapping_add_usize(count, one_if_before(numbers[i]));
-        i += 1;
+impl Nodes {
+    pub fn new(rooms: Rooms) -> Self {
+        Self {
+            column: Lent::new(rooms.column),
+            low: Lent::new(rooms.low),
+            high: Lent::new(rooms.high),
+        }
     }
-    count
-}
 
-// How many places a line shows: as many as were written, if they are not too many.
-pub fn shown(numbers: &[u16]) -> usize {
-    let written = wrapping_sub_usize(numbers.len(), untouched(numbers));
-    if written < MOST_SHOWN {
-        written
-    } else {
-        MOST_SHOWN
+    pub fn add_to(&self, checksum: &mut Checksum) {
+        checksum.add_all(self.column.as_slice());
+        checksum.add_all(self.low.as_slice());
+        checksum.add_all(self.high.as_slice());
     }
 }
 
-// The checksum after every place of the slices that the one-path call takes, in its order, so that none can differ unseen.
-pub fn checksum_of_all(
-    start: usize,
-    column: &[u16],
-    low: &[u16],
-    high: &[u16],
-    ones: &[u16],
-    zeros: &[u16],
-) -> usize {
-    let nodes = checksum::over(checksum::over(checksum::over(start, column), low), high);
-    checksum::over(checksum::over(nodes, ones), zeros)
+impl Paths {
+    pub fn new(rooms: Rooms) -> Self {
+        Self {
+            ones: Lent::new(rooms.ones),
+            zeros: Lent::new(rooms.zeros),
+        }
+    }
+
+    pub fn add_to(&self, checksum: &mut Checksum) {
+        checksum.add_all(self.ones.as_slice());
+        checksum.add_all(self.zeros.as_slice());
+    }
+}
+
+// The first nodes, each as column, low, high, and how many places of each slice are untouched.
+impl Display for Nodes {
+    fn fmt<W: Write>(&self, f: &mut Formatter<W>) -> fmt::Result {
+        let columns = self.column.as_slice().iter();
+        let children = self.low.as_slice().iter().zip(self.high.as_slice());
+        let shown = self.column.written().min(MOST_SHOWN);
+        for (column, (low, high)) in columns.zip(children).take(shown) {
+            write!(f, ", node {column} {low} {high}")?;
+        }
+        write!(f, ", untouched {} ", self.column.untouched())?;
+        write!(f, "{} {}", self.low.untouched(), self.high.untouched())
+    }
+}
+
+// The first paths, each as ones, zeros, and how many places of each slice are untouched.
+impl Display for Paths {
+    fn fmt<W: Write>(&self, f: &mut Formatter<W>) -> fmt::Result {
+        let shown = self.ones.written().min(MOST_SHOWN);
+        for (ones, zeros) in self
+            .ones
+            .as_slice()
+            .iter()
+            .zip(self.zeros.as_slice())
+            .take(shown)
+        {
+            write!(f, ", path {ones} {zeros}")?;
+        }
+        write!(
+            f,
+            ", untouched {} {}",
+            self.ones.untouched(),
+            self.zeros.untouched()
+        )
+    }
 }

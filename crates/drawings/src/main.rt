@@ -5,7 +5,6 @@ mod drawing; // drawing.rt: the diagram, node for node, and its refusals
 mod lent; // lent.rt: lent slices before and after a call
 mod listing; // listing.rt: the one-paths, the published ones among them
 mod sampled; // sampled.rt: random fit jobs, their diagrams and one-paths added up
-mod show; // show.rt: how answers and slices are written
 
 use std::io;
 

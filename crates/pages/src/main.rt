@@ -3,11 +3,9 @@
 
 mod shown; // shown.rt: one call, and what it leaves
 
-ghost use Rattle.std.specs.Prelude.{◌≤◌, length};
-
 use intake::fill;
-use naming::words::line_end;
-use spelt::spelling;
+use spelt::cases::Cases;
+use spelt::spelling::spell;
 use std::io;
 
 // More bytes than the cases have.
@@ -22,19 +20,8 @@ fn main(rt: HostRuntime) -> io::Result<()> {
 }
 
 fn run(rt: &impl Print, input: &[u8]) -> io::Result<()> {
-    let mut from = 0;
-    while from < input.len() {
-        one_case(rt, input, from)?;
-        from = line_end(input, from) + 1;
+    for case in Cases::new(input) {
+        shown::show(rt, case.name, spell(case.spelling).as_bytes())?;
     }
     Ok(())
-}
-
-fn one_case(rt: &impl Print, input: &[u8], from: usize) -> io::Result<()>
-    requires { from ≤ length input.now }
-{
-    let named = spelling::name_end(input, from);
-    let mut text = [0u8; spelling::ROOM];
-    let end = spelling::spell(input, named, &mut text);
-    shown::show(rt, &input[from..named], &text[..end])
 }

@@ -23,14 +23,14 @@ pub fn run(rt: &impl Print) -> io::Result<()> {
 fn alone(rt: &impl Print) -> io::Result<()> {
     plan(
         rt,
-        b"each need impossible alone",
+        "each need impossible alone",
         3,
         &[3, 6],
         &[0, 1, 16, 18, 1, 2, 16, 18],
     )?;
     plan(
         rt,
-        b"one need of three impossible alone",
+        "one need of three impossible alone",
         4,
         &[12],
         &[0, 18, 2, 3, 16, 18, 1, 18],
@@ -39,17 +39,17 @@ fn alone(rt: &impl Print) -> io::Result<()> {
 
 // No extract is possible at all. Without needs none is wanted.
 fn singly(rt: &impl Print) -> io::Result<()> {
-    plan(rt, b"the only column forbidden", 1, &[1], &[0, 18])?;
+    plan(rt, "the only column forbidden", 1, &[1], &[0, 18])?;
     plan(
         rt,
-        b"all columns forbidden singly",
+        "all columns forbidden singly",
         3,
         &[1, 2, 4],
         &[0, 1, 17, 2, 17, 18],
     )?;
     plan(
         rt,
-        b"all columns forbidden singly, no needs",
+        "all columns forbidden singly, no needs",
         3,
         &[1, 2, 4],
         &[],
@@ -60,14 +60,14 @@ fn singly(rt: &impl Print) -> io::Result<()> {
 fn one_column_for_two(rt: &impl Print) -> io::Result<()> {
     plan(
         rt,
-        b"one column for two needs, each choice forbidden",
+        "one column for two needs, each choice forbidden",
         5,
         &[5, 9, 6, 10],
         &[4, 0, 1, 17, 16, 18, 4, 2, 3, 17, 16, 18],
     )?;
     plan(
         rt,
-        b"one column for two needs, one choice left",
+        "one column for two needs, one choice left",
         5,
         &[5, 9, 6],
         &[4, 0, 1, 17, 16, 18, 4, 2, 3, 17, 16, 18],
@@ -78,21 +78,21 @@ fn one_column_for_two(rt: &impl Print) -> io::Result<()> {
 fn too_few_columns(rt: &impl Print) -> io::Result<()> {
     plan(
         rt,
-        b"two columns for three needs",
+        "two columns for three needs",
         5,
         &[3, 5, 6],
         &TWO_COLUMNS,
     )?;
     plan(
         rt,
-        b"two columns for two needs",
+        "two columns for two needs",
         5,
         &[3, 5, 6],
         &[0, 3, 4, 17, 16, 18, 2, 3, 4, 17, 16, 18],
     )?;
     plan(
         rt,
-        b"three columns for three needs",
+        "three columns for three needs",
         6,
         &[3, 5, 6],
         &THREE_COLUMNS,
@@ -104,7 +104,7 @@ fn too_few_columns(rt: &impl Print) -> io::Result<()> {
 fn first_choice(rt: &impl Print) -> io::Result<()> {
     plan(
         rt,
-        b"not by the first choice",
+        "not by the first choice",
         4,
         &[11],
         &[3, 2, 16, 18, 1, 18, 3, 0, 16, 18],

@@ -30,24 +30,24 @@ pub fn run(rt: &impl Print) -> io::Result<()> {
 }
 
 fn eight_extracts(rt: &impl Print) -> io::Result<()> {
-    plan(rt, b"eight extracts of 8 columns", 8, &PAIRS, &COLUMNS)?;
+    plan(rt, "eight extracts of 8 columns", 8, &PAIRS, &COLUMNS)?;
     plan_within(
         rt,
-        b"eight extracts in a slice of 16",
+        "eight extracts in a slice of 16",
         8,
         &PAIRS,
         &COLUMNS,
         16,
     )?;
-    plan(rt, b"eight extracts of 16 columns", 16, &PAIRS, &FELLOWS)?;
+    plan(rt, "eight extracts of 16 columns", 16, &PAIRS, &FELLOWS)?;
     // All but the last pair: columns 6 and 7 come together.
     let pairs = PAIRS;
-    plan(rt, b"seven extracts", 8, &pairs[..27], &COLUMNS)
+    plan(rt, "seven extracts", 8, &pairs[..27], &COLUMNS)
 }
 
 fn sixteen_columns(rt: &impl Print) -> io::Result<()> {
-    plan(rt, b"the last column", 16, &[32767], &[15, 18])?;
-    plan(rt, b"all 16 columns in one", 16, &[], &HALVES)?;
-    plan(rt, b"typical", 16, &typical::FORBIDDEN, &typical::NEEDS)?;
-    plan(rt, b"dense", 16, &dense::FORBIDDEN, &dense::NEED)
+    plan(rt, "the last column", 16, &[32767], &[15, 18])?;
+    plan(rt, "all 16 columns in one", 16, &[], &HALVES)?;
+    plan(rt, "typical", 16, &typical::FORBIDDEN, &typical::NEEDS)?;
+    plan(rt, "dense", 16, &dense::FORBIDDEN, &dense::NEED)
 }

@@ -3,7 +3,6 @@
 
 mod impossible; // impossible.rt: jobs without a correct split
 mod large; // large.rt: eight extracts, 16 columns, and the limits
-mod lent; // lent.rt: the lent slice before and after a call
 mod planning; // planning.rt: one call, and its line
 mod published; // published.rt: the published examples and the one of 01's program
 mod refused; // refused.rt: unfit numbers and short slices

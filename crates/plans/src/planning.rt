@@ -1,14 +1,16 @@
 // One call of the planner and its line: the case, the answer, and what every place of the lent slice holds after it.
 ghost use Rattle.std.specs.Prelude.{◌≤◌};
 
-use crate::lent;
 use std::io;
-use worked::print;
+use worked::lent::Lent;
+
+// The slice that is lent to the planner. No split of these cases has an extract of the number that it holds before.
+pub type Extracts = Lent<16, 60000>;
 
 // With a slice that is just long enough.
 pub fn plan(
     rt: &impl Print,
-    case: &[u8],
+    case: &str,
     columns: usize,
     forbidden: &[u16],
     marks: &[u16],
@@ -19,7 +21,7 @@ pub fn plan(
 // With a slice of this length.
 pub fn plan_within(
     rt: &impl Print,
-    case: &[u8],
+    case: &str,
     columns: usize,
     forbidden: &[u16],
     marks: &[u16],
@@ -27,22 +29,14 @@ pub fn plan_within(
 ) -> io::Result<()>
     requires { room ≤ 16 }
 {
-    let mut extracts = [lent::BEFORE; 16];
-    plan_into(rt, case, columns, forbidden, marks, &mut extracts[..room])
-}
-
-fn plan_into(
-    rt: &impl Print,
-    case: &[u8],
-    columns: usize,
-    forbidden: &[u16],
-    marks: &[u16],
-    extracts: &mut [u16],
-) -> io::Result<()> {
-    let planned = planner::plan(columns, forbidden, marks, extracts);
-    print::text(rt, case)?;
-    print::named(rt, b": refusal", planned.refusal as usize)?;
-    print::named(rt, b", count", planned.count as usize)?;
-    lent::show(rt, extracts)?;
-    print::line(rt)
+    let mut extracts = Extracts::new(room);
+    let planned = planner::plan(columns, forbidden, marks, extracts.as_mut_slice());
+    print!(rt;
+        "{case}: refusal {}, count {}, slice",
+        planned.refusal, planned.count
+    )?;
+    for place in extracts.as_slice() {
+        print!(rt; " {place}")?;
+    }
+    println!(rt; "")
 }

@@ -7,7 +7,7 @@ pub fn run(rt: &impl Print) -> io::Result<()> {
     // Figure 2: Birth with ZIP, Job with Employer.
     plan(
         rt,
-        b"000",
+        "000",
         6,
         &published::CENSUS_FORBIDDEN,
         &published::CENSUS_NEEDS,
@@ -15,7 +15,7 @@ pub fn run(rt: &impl Print) -> io::Result<()> {
     // Figure 3.2: Job with InsRate, Birth with ZIP and Disease. The three extracts that 001 calls locally minimal are not the fewest.
     plan(
         rt,
-        b"001",
+        "001",
         8,
         &published::PATIENTS_FORBIDDEN,
         &published::PATIENTS_NEEDS,
@@ -23,7 +23,7 @@ pub fn run(rt: &impl Print) -> io::Result<()> {
     // Duty with illness; steward with born and panel.
     plan(
         rt,
-        b"01, the program",
+        "01, the program",
         6,
         &published::VOLUNTEERS_FORBIDDEN,
         &published::VOLUNTEERS_NEEDS,

@@ -10,14 +10,14 @@ pub fn run(rt: &impl Print) -> io::Result<()> {
 fn twice(rt: &impl Print) -> io::Result<()> {
     plan(
         rt,
-        b"a need eight times",
+        "a need eight times",
         2,
         &[],
         &[1, 18, 1, 18, 1, 18, 1, 18, 1, 18, 1, 18, 1, 18, 1, 18],
     )?;
     plan(
         rt,
-        b"a need and a set twice",
+        "a need and a set twice",
         2,
         &[3, 3],
         &[0, 18, 1, 18, 0, 18],
@@ -25,14 +25,14 @@ fn twice(rt: &impl Print) -> io::Result<()> {
     // What contains a forbidden set is forbidden without being named; what lies inside one is not.
     plan(
         rt,
-        b"a set and larger ones",
+        "a set and larger ones",
         4,
         &[15, 7, 3, 11],
         &[0, 1, 16, 18, 2, 18],
     )?;
     plan(
         rt,
-        b"the larger ones alone",
+        "the larger ones alone",
         4,
         &[15, 7, 11],
         &[0, 1, 16, 18, 2, 18],
@@ -43,14 +43,14 @@ fn twice(rt: &impl Print) -> io::Result<()> {
 fn other_order(rt: &impl Print) -> io::Result<()> {
     plan(
         rt,
-        b"000, the other way round",
+        "000, the other way round",
         6,
         &[44, 28, 34, 18, 1],
         &[5, 4, 16, 18, 3, 2, 16, 0, 17, 18, 5, 3, 17, 18],
     )?;
     plan(
         rt,
-        b"01, the other way round",
+        "01, the other way round",
         6,
         &[18, 17, 4],
         &[5, 4, 17, 1, 16, 18, 4, 3, 16, 18, 2, 0, 17, 18],

@@ -1,66 +1,58 @@
 // Random fit jobs of up to 10 columns, 8 forbidden sets and eight needs: a line after every 50 jobs, in which all answers so far are added up.
 ghost use Rattle.std.specs.Prelude.{◌<◌, ◌≤◌, length};
 
-use crate::lent;
+use crate::planning::Extracts;
 use planner::Planned;
+use std::fmt::{self, Display, Formatter, Write};
 use std::io;
-use std::num::wrapping_add_usize;
-use worked::random::next;
-use worked::{checksum, forming, print};
+use worked::checksum::Checksum;
+use worked::forming;
+use worked::random::Random;
 
-// What has been added up so far, and where the row of random numbers stands.
-#[derive(Clone, Copy)]
+// What has been added up so far.
+#[derive(Clone, Copy, Default)]
 struct Sums {
-    state: u64,
     refusals: usize,
     counts: usize,
-    checksum: usize,
+    checksum: Checksum,
 }
 
-// Where the row of random numbers stands when so many marks have been made.
-#[derive(Clone, Copy)]
-struct Formed {
-    state: u64,
-    marked: usize,
+impl Sums {
+    // The checksum goes over all places, so that those that must stay are seen.
+    fn add(&mut self, planned: Planned, extracts: &[u16]) {
+        self.refusals = self.refusals.wrapping_add(usize::from(planned.refusal));
+        self.counts = self.counts.wrapping_add(usize::from(planned.count));
+        self.checksum.add(planned.refusal.into());
+        self.checksum.add(planned.count.into());
+        self.checksum.add_all(extracts);
+    }
+}
+
+impl Display for Sums {
+    fn fmt<W: Write>(&self, f: &mut Formatter<W>) -> fmt::Result {
+        write!(
+            f,
+            "refusals {}, counts {}, checksum {}",
+            self.refusals, self.counts, self.checksum
+        )
+    }
 }
 
 pub fn run(rt: &impl Print) -> io::Result<()> {
-    let mut sums = Sums {
-        state: 2685821657736338717,
-        refusals: 0,
-        counts: 0,
-        checksum: 0,
-    };
-    let mut jobs = 0;
-    while jobs < 300 {
-        sums = more(sums, 50);
-        jobs += 50;
-        show(rt, jobs, sums)?;
+    let mut random = Random::new(2685821657736338717);
+    let mut sums = Sums::default();
+    for jobs in 1u32..301 {
+        one_more(&mut random, &mut sums);
+        if jobs % 50 == 0 {
+            println!(rt; "random jobs {jobs}: {sums}")?;
+        }
     }
     Ok(())
 }
 
-fn show(rt: &impl Print, jobs: usize, sums: Sums) -> io::Result<()> {
-    print::named(rt, b"random jobs", jobs)?;
-    print::named(rt, b": refusals", sums.refusals)?;
-    print::named(rt, b", counts", sums.counts)?;
-    print::named(rt, b", checksum", sums.checksum)?;
-    print::line(rt)
-}
-
-fn more(sums: Sums, jobs: usize) -> Sums {
-    let mut now = sums;
-    let mut i = 0;
-    while i < jobs {
-        now = one_more(now);
-        i += 1;
-    }
-    now
-}
-
 // One job, with a slice of 8 to 16 places. Its needs have one to three column marks.
-fn one_more(sums: Sums) -> Sums {
-    let drawn = next(sums.state);
+fn one_more(random: &mut Random, sums: &mut Sums) {
+    let drawn = random.next();
     let columns = drawn % 10 + 1;
     let sets = (drawn / 16 % 9) as usize;
     let needs = (drawn / 1024 % 9) as usize;
@@ -68,64 +60,17 @@ fn one_more(sums: Sums) -> Sums {
     let size = (drawn / 262144 % 3) as usize * 2 + 2;
     let mut forbidden = [0u16; 8];
     let mut marks = [0u16; 48];
-    let state = forming::form_sets(&mut forbidden, columns, drawn);
-    let formed = form_needs(&mut marks, needs, size, columns, state);
-    let marked = formed.marked;
-    let mut next_sums = sums;
-    next_sums.state = formed.state;
-    plan(
-        next_sums,
+    forming::form_sets(random, &mut forbidden, columns);
+    let marks = &mut marks[..needs * size];
+    for need in marks.chunks_exact_mut(size) {
+        forming::form_need(random, need, columns);
+    }
+    let mut extracts = Extracts::new(room);
+    let planned = planner::plan(
         columns as usize,
         &forbidden[..sets],
-        &marks[..marked],
-        room,
-    )
-}
-
-// Fills places from the first on with so many needs, each of so many marks.
-fn form_needs(marks: &mut [u16], needs: usize, size: usize, columns: u64, state: u64) -> Formed
-    requires { (48 ≤ length marks.old) × (needs ≤ 8) × (size ≤ 6) × (0 < columns) × (columns ≤ 16) }
-    ensures { result.marked ≤ 48 }
-{
-    let mut now = state;
-    let mut marked = 0;
-    let mut i = 0;
-    while i < needs {
-        now = forming::form_need(marks, marked, size, columns, now);
-        marked += size;
-        i += 1;
-    }
-    Formed { state: now, marked }
-}
-
-fn plan(sums: Sums, columns: usize, forbidden: &[u16], marks: &[u16], room: usize) -> Sums
-    requires { room ≤ 16 }
-{
-    let mut extracts = [lent::BEFORE; 16];
-    plan_into(sums, columns, forbidden, marks, &mut extracts[..room])
-}
-
-fn plan_into(
-    sums: Sums,
-    columns: usize,
-    forbidden: &[u16],
-    marks: &[u16],
-    extracts: &mut [u16],
-) -> Sums {
-    let planned = planner::plan(columns, forbidden, marks, extracts);
-    added(sums, planned, extracts)
-}
-
-// The checksum goes over all places, so that those that must stay are seen.
-fn added(sums: Sums, planned: Planned, extracts: &[u16]) -> Sums {
-    let answered = checksum::folded(
-        checksum::folded(sums.checksum, planned.refusal),
-        planned.count,
+        marks,
+        extracts.as_mut_slice(),
     );
-    Sums {
-        state: sums.state,
-        refusals: wrapping_add_usize(sums.refusals, planned.refusal as usize),
-        counts: wrapping_add_usize(sums.counts, planned.count as usize),
-        checksum: checksum::over(answered, extracts),
-    }
+    sums.add(planned, extracts.as_slice());
 }

@@ -9,22 +9,22 @@ pub fn run(rt: &impl Print) -> io::Result<()> {
 }
 
 fn one_need(rt: &impl Print) -> io::Result<()> {
-    plan(rt, b"case 1", 1, &[], &[0, 18])?;
-    plan(rt, b"case 2", 2, &[3], &[0, 1, 17, 18])?;
-    plan(rt, b"case 4", 2, &[3], &[0, 1, 16, 18])?;
-    plan(rt, b"case 6", 1, &[], &[])?;
-    plan(rt, b"case 8", 3, &[], &[2, 0, 1, 16, 17, 18])
+    plan(rt, "case 1", 1, &[], &[0, 18])?;
+    plan(rt, "case 2", 2, &[3], &[0, 1, 17, 18])?;
+    plan(rt, "case 4", 2, &[3], &[0, 1, 16, 18])?;
+    plan(rt, "case 6", 1, &[], &[])?;
+    plan(rt, "case 8", 3, &[], &[2, 0, 1, 16, 17, 18])
 }
 
 fn more_needs(rt: &impl Print) -> io::Result<()> {
-    plan(rt, b"case 5", 2, &[3], &[0, 18, 1, 18])?;
-    plan(rt, b"case 9", 4, &[3], &[0, 18, 1, 2, 3, 16, 17, 18])?;
-    plan(rt, b"case 10", 3, &[], &[0, 1, 17, 18, 2, 18])
+    plan(rt, "case 5", 2, &[3], &[0, 18, 1, 18])?;
+    plan(rt, "case 9", 4, &[3], &[0, 18, 1, 2, 3, 16, 17, 18])?;
+    plan(rt, "case 10", 3, &[], &[0, 1, 17, 18, 2, 18])
 }
 
 // Each need alone can be met, both cannot.
 fn case_7(rt: &impl Print) -> io::Result<()> {
-    plan(rt, b"case 7", 3, &[6], &[0, 1, 16, 18, 0, 2, 16, 18])?;
-    plan(rt, b"case 7, the first need", 3, &[6], &[0, 1, 16, 18])?;
-    plan(rt, b"case 7, the second need", 3, &[6], &[0, 2, 16, 18])
+    plan(rt, "case 7", 3, &[6], &[0, 1, 16, 18, 0, 2, 16, 18])?;
+    plan(rt, "case 7, the first need", 3, &[6], &[0, 1, 16, 18])?;
+    plan(rt, "case 7, the second need", 3, &[6], &[0, 2, 16, 18])
 }

@@ -15,7 +15,7 @@ fn extracts_first(rt: &impl Print) -> io::Result<()> {
     // Not 1, 2.
     plan(
         rt,
-        b"one extract of four columns",
+        "one extract of four columns",
         5,
         &[3],
         &[0, 18, 1, 2, 3, 16, 4, 16, 17, 18],
@@ -23,7 +23,7 @@ fn extracts_first(rt: &impl Print) -> io::Result<()> {
     // Not 1, 2, 4; and not 2, 25, which has as many columns.
     plan(
         rt,
-        b"two extracts of four columns",
+        "two extracts of four columns",
         5,
         &[3, 5, 6],
         &[0, 18, 1, 18, 2, 3, 4, 16, 17, 18],
@@ -35,7 +35,7 @@ fn columns_next(rt: &impl Print) -> io::Result<()> {
     // Not 1, 6.
     plan(
         rt,
-        b"two columns in all",
+        "two columns in all",
         4,
         &[3, 5, 9],
         &[0, 18, 3, 1, 2, 16, 17, 18],
@@ -43,7 +43,7 @@ fn columns_next(rt: &impl Print) -> io::Result<()> {
     // Not 3, 56, though 3 is the smallest set that meets a need.
     plan(
         rt,
-        b"four columns in all",
+        "four columns in all",
         6,
         &[33],
         &[0, 1, 2, 17, 16, 18, 5, 1, 3, 4, 16, 17, 16, 18],
@@ -53,11 +53,11 @@ fn columns_next(rt: &impl Print) -> io::Result<()> {
 // The smaller first number.
 fn first_number(rt: &impl Print) -> io::Result<()> {
     // Not 2.
-    plan(rt, b"the first of one", 2, &[], &[1, 0, 17, 18])?;
+    plan(rt, "the first of one", 2, &[], &[1, 0, 17, 18])?;
     // Not 6, 9, though 9 is below 10.
     plan(
         rt,
-        b"the first of two",
+        "the first of two",
         4,
         &[3],
         &[0, 2, 3, 17, 16, 18, 1, 2, 3, 17, 16, 18],
@@ -65,7 +65,7 @@ fn first_number(rt: &impl Print) -> io::Result<()> {
     // Not from 3 on, the smallest set that meets a need: it leaves the other need without its column.
     plan(
         rt,
-        b"the first that leaves a second",
+        "the first that leaves a second",
         4,
         &[9],
         &[0, 1, 2, 17, 16, 18, 3, 1, 16, 18],
@@ -75,11 +75,11 @@ fn first_number(rt: &impl Print) -> io::Result<()> {
 // The first numbers are equal. Any two of the columns are forbidden.
 fn later_numbers(rt: &impl Print) -> io::Result<()> {
     // Not 1, 4.
-    plan(rt, b"the second", 3, &[3, 5, 6], &[0, 18, 2, 1, 17, 18])?;
+    plan(rt, "the second", 3, &[3, 5, 6], &[0, 18, 2, 1, 17, 18])?;
     // Not 1, 2, 8.
     plan(
         rt,
-        b"the third",
+        "the third",
         4,
         &[3, 5, 6, 9, 10, 12],
         &[3, 2, 17, 18, 0, 18, 1, 18],
@@ -90,14 +90,14 @@ fn later_numbers(rt: &impl Print) -> io::Result<()> {
 fn rising(rt: &impl Print) -> io::Result<()> {
     plan(
         rt,
-        b"the larger set first",
+        "the larger set first",
         4,
         &[9],
         &[3, 18, 0, 1, 16, 2, 16, 18],
     )?;
     plan(
         rt,
-        b"the last need first",
+        "the last need first",
         3,
         &[3, 5, 6],
         &[2, 18, 1, 18, 0, 18],

@@ -1,115 +1,43 @@
-// How a case spells its text: a name, a colon and a blank, then the bytes up to the line's end. `\n` is LF, `\r` is CR, `\xHH` is the byte with this
-// number, and `\{unit\}33;` stands for 33 units.
-ghost use Rattle.std.specs.Prelude.{◌+◌, ◌≤◌, ◌<◌, length};
+// How a case spells its text. `\n` is LF, `\r` is CR, `\xHH` is the byte with this number, and `\{unit\}33;` stands for 33 units.
+ghost use Rattle.std.specs.Prelude.{◌<◌, ◌≤◌, length};
+ghost use Rattle.std.specs.Slice.Iter.{iter_rest};
 
-use crate::repeats::{put, repeat};
-use naming::signs::{LINE_END, byte};
+use crate::draft::Draft;
+use std::slice::Iter;
 
-// More bytes than a text may have.
-pub const ROOM: usize = 8200;
-
-// How far the spelling is read, where the last unit began, and how many bytes the text has.
-#[derive(Clone, Copy)]
-struct Spelt {
-    at: usize,
-    unit: usize,
-    filled: usize,
-}
-
-// Where the name of a case ends, or the end of the cases.
-pub fn name_end(input: &[u8], from: usize) -> usize
-    requires { from ≤ length input.now }
-    ensures { (from ≤ result) × (result ≤ length input.now) }
-{
-    let mut at = from;
-    while at < input.len() {
-        if input[at] == b':' {
-            return at;
+/// The text of a spelling, which ends at a line end.
+pub fn spell(spelling: &[u8]) -> Draft {
+    let mut text = Draft::new();
+    let mut unit = 0;
+    let mut signs = spelling.iter();
+    while let Some(sign) = signs.next() {
+        match sign {
+            b'\n' => break,
+            b'\\' => escaped(&mut signs, &mut text, &mut unit),
+            _ => text.put(*sign),
         }
-        at += 1;
     }
-    at
+    text
 }
 
-// Writes the text of the case whose name ends at a place, and says how many bytes it has.
-pub fn spell(input: &[u8], named: usize, text: &mut [u8]) -> usize
-    requires { named ≤ length input.now }
-    ensures { result ≤ length text.old }
+// What stands behind a backslash. A unit ends where the text ends, and begins where the last begin of one was.
+fn escaped(signs: &mut Iter<'_, u8>, text: &mut Draft, unit: &mut usize)
+    ensures { length (iter_rest signs.new) ≤ length (iter_rest signs.old) }
 {
-    let mut spelt = Spelt {
-        at: named + 2,
-        unit: 0,
-        filled: 0,
-    };
-    while spelt.at < input.len() {
-        let at = spelt.at;
-        if input[at] == LINE_END {
-            return spelt.filled;
-        }
-        spelt = one_more(input, spelt, text);
-    }
-    spelt.filled
-}
-
-// One sign more of the spelling.
-fn one_more(input: &[u8], spelt: Spelt, text: &mut [u8]) -> Spelt
-    requires { (spelt.at < length input.now) × (spelt.filled ≤ length text.old) }
-    ensures { (spelt.at < result.at) × (result.filled ≤ length text.old) }
-{
-    let at = spelt.at;
-    let sign = input[at];
-    if sign == b'\\' {
-        return escaped(input, spelt, text);
-    }
-    let filled = put(text, spelt.filled, sign);
-    Spelt {
-        at: at + 1,
-        unit: spelt.unit,
-        filled,
+    match next(signs) {
+        b'{' => *unit = text.len(),
+        b'}' => text.repeat(*unit, decimal(signs)),
+        b'x' => text.put(16 * hex(next(signs)) + hex(next(signs))),
+        b'n' => text.put(b'\n'),
+        _ => text.put(b'\r'),
     }
 }
 
-// What stands behind a backslash.
-fn escaped(input: &[u8], spelt: Spelt, text: &mut [u8]) -> Spelt
-    requires { (spelt.at < length input.now) × (spelt.filled ≤ length text.old) }
-    ensures { (spelt.at < result.at) × (result.filled ≤ length text.old) }
+// The next sign, or 0 where there is none.
+fn next(signs: &mut Iter<'_, u8>) -> u8
+    ensures { length (iter_rest signs.new) ≤ length (iter_rest signs.old) }
 {
-    let at = spelt.at;
-    let unit = spelt.unit;
-    let kind = byte(input, at + 1);
-    if kind == b'{' {
-        return Spelt {
-            at: at + 2,
-            unit: spelt.filled,
-            filled: spelt.filled,
-        };
-    }
-    if kind == b'}' {
-        let times = decimal(input, at + 2);
-        let filled = repeat(text, unit, spelt.filled, times.value);
-        return Spelt {
-            at: times.to,
-            unit,
-            filled,
-        };
-    }
-    let filled = put(text, spelt.filled, coded(input, at + 1));
-    Spelt {
-        at: if kind == b'x' { at + 4 } else { at + 2 },
-        unit,
-        filled,
-    }
-}
-
-// The byte that the signs from a place on stand for.
-fn coded(input: &[u8], at: usize) -> u8
-    requires { at ≤ length input.now }
-{
-    let kind = byte(input, at);
-    if kind == b'x' {
-        return 16 * hex(byte(input, at + 1)) + hex(byte(input, at + 2));
-    }
-    if kind == b'n' { LINE_END } else { b'\r' }
+    signs.next().copied().unwrap_or(0)
 }
 
 // What a digit of a byte's number is worth.
@@ -123,26 +51,15 @@ fn hex(digit: u8) -> u8
     }
 }
 
-// A number, of which the last four digits count, and the place behind the semicolon that ends it.
-#[derive(Clone, Copy)]
-struct Counted {
-    value: usize,
-    to: usize,
-}
-
-fn decimal(input: &[u8], from: usize) -> Counted
-    requires { from ≤ length input.now + 1 }
-    ensures { from < result.to }
+// A number, of which the last four digits count, up to the semicolon that ends it.
+fn decimal(signs: &mut Iter<'_, u8>) -> usize
+    ensures { length (iter_rest signs.new) ≤ length (iter_rest signs.old) }
 {
-    let mut value: usize = 0;
-    let mut at = from;
-    while at < input.len() {
-        let sign = input[at];
-        if sign == b';' {
-            return Counted { value, to: at + 1 };
-        }
-        value = (10 * value + (sign % 16) as usize) % 10000;
-        at += 1;
+    let mut value = 0;
+    while let Some(sign) = signs.next()
+        && *sign != b';'
+    {
+        value = (10 * (value % 1000) + usize::from(*sign % 16)) % 10000;
     }
-    Counted { value, to: at + 1 }
+    value
 }

@@ -4,12 +4,12 @@
 mod answers; // answers.rt: one call, and its line
 mod damaged; // damaged.rt: texts with one byte left out, put in or changed
 
-ghost use Rattle.std.specs.Prelude.{◌≤◌, length};
-
+use damaged::Sums;
 use intake::fill;
-use naming::words::line_end;
-use spelt::spelling;
+use spelt::cases::Cases;
+use spelt::spelling::spell;
 use std::io;
+use worked::random::Random;
 
 // More bytes than the cases have.
 const MOST_READ: usize = 65536;
@@ -22,26 +22,12 @@ fn main(rt: HostRuntime) -> io::Result<()> {
 }
 
 fn run(rt: &impl Print, input: &[u8]) -> io::Result<()> {
-    let mut sums = damaged::begin();
-    let mut from = 0;
-    while from < input.len() {
-        sums = one_case(rt, input, from, sums)?;
-        from = line_end(input, from) + 1;
+    let mut random = Random::new(2685821657736338717);
+    let mut sums = Sums::default();
+    for case in Cases::new(input) {
+        let text = spell(case.spelling);
+        answers::show(rt, case.name, text.as_bytes())?;
+        sums.add_damaged(&mut random, text.as_bytes());
     }
-    damaged::show(rt, sums)
-}
-
-fn one_case(
-    rt: &impl Print,
-    input: &[u8],
-    from: usize,
-    sums: damaged::Sums,
-) -> io::Result<damaged::Sums>
-    requires { from ≤ length input.now }
-{
-    let named = spelling::name_end(input, from);
-    let mut text = [0u8; spelling::ROOM];
-    let end = spelling::spell(input, named, &mut text);
-    answers::show(rt, &input[from..named], &text[..end])?;
-    Ok(damaged::more(sums, &text[..end]))
+    println!(rt; "damaged texts {sums}")
 }

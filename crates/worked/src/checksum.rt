@@ -1,18 +1,31 @@
 // A checksum of numbers, so that none can differ unseen.
-use std::num::{wrapping_add_usize, wrapping_sub_usize};
+ghost use Rattle.std.specs.Prelude.{◌≡◌, ◌+◌, ◌*◌, ◌%◌, ◌^◌};
 
-// The checksum after one more number: 31 times as much, and the number, within 64 bits.
-pub fn folded(checksum: usize, number: u16) -> usize {
-    wrapping_add_usize(wrapping_sub_usize(checksum << 5, checksum), number as usize)
+use std::fmt::{self, Display, Formatter, Write};
+
+#[derive(Clone, Copy, Default)]
+pub struct Checksum {
+    value: u64,
 }
 
-// The checksum after every place of a slice.
-pub fn over(start: usize, numbers: &[u16]) -> usize {
-    let mut checksum = start;
-    let mut i = 0;
-    while i < numbers.len() {
-        checksum = folded(checksum, numbers[i]);
-        i += 1;
+impl Checksum {
+    /// One number more: the checksum is 31 times as much, and the number, within 64 bits.
+    pub fn add(&mut self, number: u64)
+        ensures { self.new.value ≡ (31 * self.old.value % 2 ^ 64 + number) % 2 ^ 64 }
+    {
+        self.value = self.value.wrapping_mul(31).wrapping_add(number);
     }
-    checksum
+
+    /// Every number of a slice, one after the other.
+    pub fn add_all<N: Into<u64> + Copy>(&mut self, numbers: &[N]) {
+        for number in numbers {
+            self.add((*number).into());
+        }
+    }
+}
+
+impl Display for Checksum {
+    fn fmt<W: Write>(&self, f: &mut Formatter<W>) -> fmt::Result {
+        self.value.fmt(f)
+    }
 }

@@ -1,10 +1,10 @@
-// What the programs of worked cases share: how they write, the jobs that more than one of them uses, random numbers and jobs, and a checksum.
+// What the programs of worked cases share: the jobs that more than one of them uses, random numbers and jobs, lent slices, and a checksum.
 #![tactic(auto)]
 
 pub mod checksum; // checksum.rt: a checksum of numbers
 pub mod dense; // dense.rt: the numbers of a job with a large diagram
 pub mod forming; // forming.rt: random forbidden sets and needs
-pub mod print; // print.rt: text and numbers to standard output
+pub mod lent; // lent.rt: slices before and after a call
 pub mod published; // published.rt: the numbers of the published examples
 pub mod random; // random.rt: numbers that look random
 pub mod typical; // typical.rt: the numbers of a job as they are in usual use

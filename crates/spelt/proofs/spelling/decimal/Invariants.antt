@@ -1,9 +1,7 @@
--- `spelt::spelling::decimal` is safe and ends. Assumes nothing.
-use Rattle.std.proofs.Common.{length, ◌-◌, ◌+◌, ◌≤◌, ◌<◌}
+-- `spelt::spelling::decimal` leaves no more signs than there were. Assumes nothing.
+use Rattle.std.proofs.Common.{◌≤◌, length}
+use Rattle.std.specs.Slice.Iter.{iter_rest}
 use Rattle.spelt.proofs.spelling.decimal.Given as goal
 
-abbrev pub invariant-loop-at : goal.invariant-loop-at
-invariant-loop-at l = record { ahead : l.from ≤ l.at; within : l.at ≤ length l.input + 1; small : l.value < 10000 }
-
-abbrev pub decreases-loop-at : goal.decreases-loop-at
-decreases-loop-at l = length l.input - l.at
+abbrev pub invariant-loop-sign : goal.invariant-loop-sign
+invariant-loop-sign l = length (iter_rest l.signs) ≤ length (iter_rest l.initial.signs)

@@ -1,9 +1,0 @@
--- `spelt::spelling::name_end` is safe and ends. Assumes nothing.
-use Rattle.std.proofs.Common.{length, ◌-◌, ◌≤◌}
-use Rattle.spelt.proofs.spelling.name_end.Given as goal
-
-abbrev pub invariant-loop-at : goal.invariant-loop-at
-invariant-loop-at l = record { ahead : l.from ≤ l.at; within : l.at ≤ length l.input }
-
-abbrev pub decreases-loop-at : goal.decreases-loop-at
-decreases-loop-at l = length l.input - l.at

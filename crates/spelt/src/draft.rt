@@ -1,0 +1,62 @@
+// A text that is put together byte for byte.
+ghost use Rattle.std.specs.Prelude.{◌≡◌, ◌+◌, ◌≤◌, min, take};
+
+// More bytes than a text may have.
+pub const ROOM: usize = 8200;
+
+/// The bytes that have been put so far. Where there is no room, nothing more is put.
+#[derive(Clone, Copy)]
+pub struct Draft {
+    bytes: [u8; ROOM],
+    filled: usize,
+    ghost within: { filled ≤ 8200 },
+}
+
+impl Draft {
+    pub fn new() -> Self
+        ensures { result.filled ≡ 0 }
+    {
+        Self {
+            bytes: [0; ROOM],
+            filled: 0,
+        }
+    }
+
+    /// How many bytes there are.
+    pub fn len(&self) -> usize
+        ensures { result ≡ self.now.filled }
+    {
+        self.filled
+    }
+
+    pub fn as_bytes(&self) -> &[u8]
+        ensures { result.now ≡ take self.now.filled self.now.bytes }
+    {
+        &self.bytes[..self.filled]
+    }
+
+    pub fn put(&mut self, byte: u8)
+        ensures { self.new.filled ≡ min (self.old.filled + 1) 8200 }
+    {
+        if let Some(place) = self.bytes.get_mut(self.filled) {
+            *place = byte;
+            self.filled += 1;
+        }
+    }
+
+    pub fn put_all(&mut self, bytes: &[u8]) {
+        for byte in bytes {
+            self.put(*byte);
+        }
+    }
+
+    /// The bytes from a place on, put behind the text until they stand so many times.
+    pub fn repeat(&mut self, from: usize, times: usize) {
+        let to = self.filled;
+        for _ in 1..times {
+            for place in from..to {
+                self.put(self.bytes[place]);
+            }
+        }
+    }
+}
