@@ -1,5 +1,6 @@
 -- The laws that the proofs of diagram share.
 pub mod Promises
+pub mod Answers
 pub mod Slices
 pub mod Drawings
 pub mod DrawnNodes
