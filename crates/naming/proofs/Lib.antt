@@ -1,7 +1,7 @@
 -- What the proofs of naming share, and what those who walk over names need.
 pub mod Said
 pub mod Runs
-pub mod Alike
+pub mod Fronts
 pub mod Walks
 pub mod AllSections
 pub mod KeysApart

@@ -1,5 +1,5 @@
 // The bytes of a job text.
-ghost use Rattle.std.specs.Prelude.{◌≡◌, true, false};
+ghost use Rattle.std.specs.Prelude.{◌≡◌, true, false, drop};
 ghost use Rattle.rules.specs.Signs.{byte_at, Says, letter as letter_byte, digit as digit_byte, in_name};
 ghost use Rattle.naming.specs.Words.{is_sign};
 
@@ -12,7 +12,14 @@ pub const MOST_BRACKETS: usize = 8;
 pub fn byte(text: &[u8], at: usize) -> u8
     ensures { result ≡ byte_at text.now at }
 {
-    if at < text.len() { text[at] } else { 0 }
+    text.get(at).copied().unwrap_or(0)
+}
+
+// The bytes from a place on; none past the end.
+pub(crate) fn bytes_from(text: &[u8], at: usize) -> &[u8]
+    ensures { result.now ≡ drop at text.now }
+{
+    text.get(at..).unwrap_or_default()
 }
 
 // Whether these bytes, of which the first is not 0, stand from a place on.
@@ -24,12 +31,10 @@ pub fn stands(text: &[u8], at: usize, bytes: &[u8]) -> bool
     if text.len() <= at {
         return false;
     }
-    let mut i = 0;
-    while i < bytes.len() {
-        if byte(text, at + i) != bytes[i] {
+    for (i, expected) in bytes.iter().enumerate() {
+        if byte(text, at + i) != *expected {
             return false;
         }
-        i += 1;
     }
     true
 }
@@ -37,13 +42,13 @@ pub fn stands(text: &[u8], at: usize, bytes: &[u8]) -> bool
 pub fn letter(sign: u8) -> bool
     ensures { result ≡ letter_byte sign }
 {
-    b'a' <= sign && sign <= b'z'
+    sign.is_ascii_lowercase()
 }
 
 pub fn digit(sign: u8) -> bool
     ensures { result ≡ digit_byte sign }
 {
-    b'0' <= sign && sign <= b'9'
+    sign.is_ascii_digit()
 }
 
 // Whether a byte can stand in a name.

@@ -1,52 +1,50 @@
 // The names of a line, one after the other.
-ghost use Rattle.std.specs.Prelude.{◌≡◌, true, false, List, ℕ};
+ghost use Rattle.std.specs.Prelude.{◌≡◌, true, false, List, ℕ, ◌≤◌, ◌-◌, length};
 ghost use Rattle.rules.specs.Signs.{byte_at, piece, in_name};
-ghost use Rattle.rules.specs.Names.{Spot, spot, Run, same_name};
+ghost use Rattle.rules.specs.Names.{Spot, spot, Run, name_at, same_name};
 ghost use Rattle.rules.specs.Sheets.{stands_in};
 ghost use Rattle.naming.specs.Words.{Skips, Ends, Between};
 
-use crate::signs::{LINE_END, byte, in_name, is_sign};
+use crate::signs::{LINE_END, byte, bytes_from, in_name, is_sign};
 
 // "Names 1 to 12 bytes."
 pub const MOST_NAME_BYTES: usize = 12;
 
-// The place behind the letters and digits from a place on.
+// The letters and digits from a place on.
+pub fn name_at(text: &[u8], at: usize) -> &[u8]
+    ensures is { result.now ≡ name_at text.now at }
+    ensures within { length result.now ≤ length text.now - at }
+{
+    let rest = bytes_from(text, at);
+    let many = rest.iter().take_while(|sign| in_name(**sign)).count();
+    &rest[..many]
+}
+
+// The place behind them.
 pub fn name_end(text: &[u8], at: usize) -> usize
     ensures { Run text.now at result }
 {
-    let mut end = at;
-    while in_name(byte(text, end)) {
-        end += 1;
-    }
-    end
+    at + name_at(text, at).len()
 }
 
 // The place of the next name of a line from a place on, or of the line's end.
 pub fn next_name(text: &[u8], at: usize) -> usize
     ensures { Skips text.now at result }
 {
-    let mut place = at;
-    while place < text.len() {
-        if !is_sign(text[place]) {
-            return place;
-        }
-        place += 1;
-    }
-    place
+    at + bytes_from(text, at)
+        .iter()
+        .take_while(|sign| is_sign(**sign))
+        .count()
 }
 
 // The place of the line's end from a place on.
 pub fn line_end(text: &[u8], at: usize) -> usize
     ensures { Ends text.now at result }
 {
-    let mut place = at;
-    while place < text.len() {
-        if text[place] == LINE_END {
-            return place;
-        }
-        place += 1;
-    }
-    place
+    at + bytes_from(text, at)
+        .iter()
+        .take_while(|sign| **sign != LINE_END)
+        .count()
 }
 
 // Whether the names at two places are the same.
@@ -54,14 +52,7 @@ pub fn same(text: &[u8], one: usize, other: usize) -> bool
     ensures { (p q : ℕ) → Run text.now one p → Run text.now other q
         → result ≡ same_name (piece text.now one p) (piece text.now other q) }
 {
-    let mut i = 0;
-    while in_name(byte(text, one + i)) {
-        if byte(text, one + i) != byte(text, other + i) {
-            return false;
-        }
-        i += 1;
-    }
-    !in_name(byte(text, other + i))
+    name_at(text, one) == name_at(text, other)
 }
 
 // Whether the name at a place stands among the names from another place on before it.
