@@ -1,3 +1,3 @@
 -- What the proofs of needs share: the lanes of a column, and the operands of a need as words of lanes.
 pub mod ColumnLanes
-pub mod Operands
+pub mod OperandWords

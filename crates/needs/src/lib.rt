@@ -1,13 +1,12 @@
 // A need, as a row of marks, evaluated on sets of columns: on 64 sets at once, each a bit of a word, or on one.
 #![tactic(auto)]
 
-ghost use Rattle.std.specs.Prelude.{◌≡◌, cond, eqb};
+ghost use Rattle.std.specs.Prelude.{◌≡◌, ◌+◌, ◌-◌, ◌<◌, ◌≤◌, slice_set, get_or};
 ghost use Rattle.rules.specs.Options.{Some};
-ghost use Rattle.std.specs.Int.Bits.{bit_and, bit_or};
 ghost use Rattle.rules.specs.Sets.{has};
 ghost use Rattle.rules.specs.Needs.{Need, meets};
-ghost use Rattle.rules.specs.Marks.{and_mark, need_of, before_end};
-ghost use Rattle.needs.specs.Lanes.{Lanes};
+ghost use Rattle.rules.specs.Marks.{need_of, before_end};
+ghost use Rattle.needs.specs.Lanes.{Lanes, joined_word};
 
 use columns::ColumnSet;
 use job::rows::{AND_MARK, END_MARK, MOST_NEED_MARKS, OR_MARK};
@@ -29,7 +28,7 @@ pub fn column_lanes(column: u16, block: u16) -> u64
     if column < 6 {
         LOW_COLUMNS[column as usize]
     } else if (ColumnSet { bits: block }).has(column - 6) {
-        0xFFFF_FFFF_FFFF_FFFF
+        u64::MAX
     } else {
         0
     }
@@ -40,33 +39,54 @@ pub fn column_lanes(column: u16, block: u16) -> u64
 pub fn met_lanes(row: &[u16; MOST_NEED_MARKS], block: u16) -> u64
     ensures { (v : Need) → need_of (before_end row.now) ≡ Some v → Lanes block (meets v) result }
 {
-    // The proof learns how long the row is where it becomes a slice.
-    let marks: &[u16] = row;
-    let mut operands = [0u64; MOST_NEED_MARKS];
-    let mut count = 0;
-    let mut i = 0;
-    while i < marks.len() {
-        let mark = marks[i];
-        if mark == END_MARK {
-            break;
+    let mut operands = Operands {
+        words: [0; MOST_NEED_MARKS],
+        count: 0,
+    };
+    for &mark in row {
+        match mark {
+            END_MARK => break,
+            AND_MARK | OR_MARK => operands.join(mark),
+            column => operands.push(column_lanes(column, block)),
         }
-        if mark == AND_MARK || mark == OR_MARK {
-            if 1 < count {
-                operands[count - 2] = joined(mark, operands[count - 2], operands[count - 1]);
-                count -= 1;
-            }
-        } else {
-            operands[count] = column_lanes(mark, block);
-            count += 1;
-        }
-        i += 1;
     }
-    operands[0]
+    operands.words[0]
+}
+
+// The operands of a need as words of lanes, the last one last. The words stand in fixed memory, of which so many are in use.
+#[derive(Drop)]
+struct Operands {
+    words: [u64; MOST_NEED_MARKS],
+    count: usize,
+}
+
+impl Operands {
+    // One more operand.
+    fn push(&mut self, word: u64)
+        requires { self.old.count < MOST_NEED_MARKS }
+        ensures { self.new ≡ record { words = slice_set self.old.words self.old.count word; count = self.old.count + 1 } }
+    {
+        self.words[self.count] = word;
+        self.count += 1;
+    }
+
+    // The last two operands become one. Fewer than two stay as they are.
+    fn join(&mut self, mark: u16)
+        requires { self.old.count ≤ MOST_NEED_MARKS }
+        ensures two { let words = self.old.words in let left = self.old.count - 2 in let right = self.old.count - 1 in 1 < self.old.count → self.new ≡ record { words = slice_set words left (joined_word mark (get_or words left 0) (get_or words right 0)); count = self.old.count - 1 } }
+        ensures fewer { self.old.count ≤ 1 → self.new ≡ self.old }
+    {
+        if 1 < self.count {
+            let (left, right) = (self.words[self.count - 2], self.words[self.count - 1]);
+            self.words[self.count - 2] = joined(mark, left, right);
+            self.count -= 1;
+        }
+    }
 }
 
 // Two operands joined, lane by lane.
 fn joined(mark: u16, left: u64, right: u64) -> u64
-    ensures { result ≡ cond (eqb mark and_mark) (bit_and left right) (bit_or left right) }
+    ensures { result ≡ joined_word mark left right }
 {
     if mark == AND_MARK {
         left & right

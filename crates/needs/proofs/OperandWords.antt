@@ -15,7 +15,7 @@ use Rattle.rules.specs.Needs.{Need, column, both, either, meets}
 use Rattle.rules.specs.Marks.{and_mark, end_mark, before_end, joined, after, operands_of, only, need_of}
 use Rattle.rules.proofs.Marks.{is_join, after_column, after_join, before_later}
 use Rattle.rules.proofs.SetBits.{has_and, has_or}
-use Rattle.needs.specs.Lanes.{Lanes}
+use Rattle.needs.specs.Lanes.{Lanes, joined_word}
 
 -- ---- the words of the operands
 
@@ -39,9 +39,6 @@ stacked_more block words v vs word h l s =
     (rw (get_or-set_same words (length vs) word 0 h) l, stacked_past block words vs (length vs) word (omega arith) s)
 
 -- ---- two operands joined
-
-abbrev joined_word : ℕ → ℕ → ℕ → ℕ
-joined_word m left right = cond (eqb m and_mark) (bit_and left right) (bit_or left right)
 
 joined_lanes : (block left right : ℕ) (v w : Need) (b : Bool) → Lanes block (meets v) left → Lanes block (meets w) right
     → Lanes block (meets (cond b both either v w)) (cond b (bit_and left right) (bit_or left right))
