@@ -3,11 +3,11 @@ ghost use Rattle.std.specs.Prelude.{◌≡◌, true, false, ◌&&◌, List, ℕ,
 ghost use Rattle.rules.specs.Signs.{byte_at, Says, says_at};
 ghost use Rattle.rules.specs.Names.{Spot};
 ghost use Rattle.naming.specs.Words.{Words};
-ghost use Rattle.naming.specs.Sections.{key_of, width_of, packed, counted, counted_at, sections};
+ghost use Rattle.naming.specs.Sections.{key_of, width_of, counted, counted_at, sections};
 ghost use Rattle.naming.specs.declared.sections.Section.TheVariants.{End};
 
 use crate::known::COLUMNS_FROM;
-use crate::signs::stands;
+use crate::signs::{byte, stands};
 use crate::words::line_end;
 
 #[derive(Clone, Copy, Debug, PartialEq, Eq)]
@@ -28,39 +28,30 @@ impl Section {
     ];
 }
 
-// How many bytes stand before the value of its lines.
+// The bytes that its lines begin with.
+fn key(section: Section) -> &'static [u8]
+    ensures { result.now ≡ key_of section }
+{
+    match section {
+        Section::Columns => b"columns=",
+        Section::Forbid => b"forbid=",
+        Section::Need => b"need=",
+        Section::End => b"end=",
+    }
+}
+
+// How many they are: so many bytes stand before the value of its lines.
 pub fn width(section: Section) -> usize
     ensures { result ≡ width_of section }
 {
-    match section {
-        Section::Columns => COLUMNS_FROM,
-        Section::Forbid => 7,
-        Section::Need => 5,
-        Section::End => 4,
-    }
+    key(section).len()
 }
 
-// The bytes of its key as one number, the first byte lowest.
-fn key_word(section: Section) -> u64
-    ensures { result ≡ packed (key_of section) }
-{
-    match section {
-        Section::Columns => 0x3D73_6E6D_756C_6F63,
-        Section::Forbid => 0x003D_6469_6272_6F66,
-        Section::Need => 0x0000_003D_6465_656E,
-        Section::End => 0x0000_0000_3D64_6E65,
-    }
-}
-
-// The byte at a place of its key; 0 past the end. It is taken out of one number, because a byte string would be laid out anew at every call, and
-// a text is looked at byte by byte.
+// The byte at a place of its key; 0 past the end.
 pub fn key_byte(section: Section, at: usize) -> u8
     ensures { result ≡ byte_at (key_of section) at }
 {
-    if 8 <= at {
-        return 0;
-    }
-    ((key_word(section) >> (8 * at)) % 256) as u8
+    byte(key(section), at)
 }
 
 // Whether a line of the section begins at a place.
@@ -68,12 +59,7 @@ pub fn key_stands(text: &[u8], section: Section, at: usize) -> bool
     ensures there { result ≡ true → Says text.now at (key_of section) }
     ensures missing { result ≡ false → Says text.now at (key_of section) → ⊥ }
 {
-    match section {
-        Section::Columns => stands(text, at, b"columns="),
-        Section::Forbid => stands(text, at, b"forbid="),
-        Section::Need => stands(text, at, b"need="),
-        Section::End => stands(text, at, b"end="),
-    }
+    stands(text, at, key(section))
 }
 
 // The place behind the line of the section that begins at a place.
@@ -94,12 +80,7 @@ pub fn next_line(text: &[u8], section: Section, at: usize) -> usize
 pub fn counts(section: Section) -> bool
     ensures { result ≡ counted section }
 {
-    match section {
-        Section::Columns => false,
-        Section::Forbid => true,
-        Section::Need => true,
-        Section::End => false,
-    }
+    matches!(section, Section::Forbid | Section::Need)
 }
 
 // Whether the key of a section whose lines it counts stands at a place.
