@@ -5,3 +5,4 @@ pub mod Building
 pub mod Buckets
 pub mod Rebuilding
 pub mod Growing
+pub mod Parts
