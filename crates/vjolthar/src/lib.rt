@@ -2,9 +2,11 @@
 // enum, which is no form that other languages share; so each function here returns the refusal's number and hands out the others one by one.
 #![tactic(auto)]
 
-use job::refusals::SLICE_TOO_SHORT;
-use job::{MOST_FORBIDDEN, MOST_MARKS, copies};
+use job::refusals::Refusal;
+use job::{MOST_FORBIDDEN, MOST_MARKS, Numbers, copies, no_job};
+use text::JobRead;
 use text::table::NAMES;
+use verdicts::Told;
 
 mod verdicts; // verdicts.rt: the judge's answer as numbers
 
@@ -45,29 +47,33 @@ pub fn vjolthar_read(
     *sets = 0;
     *needs = 0;
     *marked = 0;
-    if forbidden.len() < MOST_FORBIDDEN {
-        return SLICE_TOO_SHORT;
+    if forbidden.len() < MOST_FORBIDDEN || marks.len() < MOST_MARKS || names.len() < NAMES {
+        return u16::from(Refusal::SliceTooShort);
     }
-    if marks.len() < MOST_MARKS {
-        return SLICE_TOO_SHORT;
-    }
-    if names.len() < NAMES {
-        return SLICE_TOO_SHORT;
-    }
-    let taken = text::read(text);
-    let job = taken.job;
-    let sets_read = job.forbidden;
-    let marks_read = job.marks;
-    let names_read = taken.names;
-    copies::write(forbidden, &sets_read);
-    copies::write(marks, &marks_read);
-    writing::put(names, 0, &names_read);
-    *place = taken.place;
+    let (refusal, at, read) = match text::read(text) {
+        Ok(read) => (0, 0, read),
+        Err(fault) => (u16::from(fault.refusal), fault.place, nothing_read()),
+    };
+    let JobRead { job, names: table } = read;
+    copies::write(forbidden, &job.forbidden);
+    copies::write(marks, &job.marks);
+    writing::put(names, 0, &table);
+    *place = at;
     *columns = job.columns as usize;
     *sets = job.sets;
     *needs = job.needs;
     *marked = job.marked;
-    taken.refusal
+    refusal
+}
+
+// What is handed out of a text that is refused: a job with no columns, sets or marks, and no names.
+fn nothing_read() -> JobRead
+    ensures { (result.job ≡ no_job) × (result.names ≡ name_table []) }
+{
+    JobRead {
+        job: no_job(),
+        names: [0u8; NAMES],
+    }
 }
 
 // `diagram::diagram`
@@ -87,10 +93,23 @@ pub fn vjolthar_diagram(
         (record { refusal = result; root = root.new; count = count.new })
         (node_slices column.new low.new high.new) }
 {
-    let drawn = diagram::diagram(columns, forbidden, marks, chosen, column, low, high);
-    *root = drawn.root;
-    *count = drawn.count;
-    drawn.refusal
+    let numbers = Numbers {
+        columns,
+        forbidden,
+        marks,
+    };
+    match diagram::diagram(numbers, chosen, column, low, high) {
+        Ok(drawn) => {
+            *root = drawn.root;
+            *count = drawn.count;
+            0
+        }
+        Err(refusal) => {
+            *root = 0;
+            *count = 0;
+            u16::from(refusal)
+        }
+    }
 }
 
 // `diagram::one_paths`
@@ -115,13 +134,25 @@ pub fn vjolthar_one_paths(
         (node_slices column.new low.new high.new)
         (path_slices ones.new zeros.new) }
 {
-    let listed = diagram::one_paths(
-        columns, forbidden, marks, chosen, column, low, high, ones, zeros,
-    );
-    *root = listed.root;
-    *count = listed.count;
-    *paths = listed.paths;
-    listed.refusal
+    let numbers = Numbers {
+        columns,
+        forbidden,
+        marks,
+    };
+    match diagram::one_paths(numbers, chosen, column, low, high, ones, zeros) {
+        Ok(listed) => {
+            *root = listed.root;
+            *count = listed.count;
+            *paths = listed.paths;
+            0
+        }
+        Err(refusal) => {
+            *root = 0;
+            *count = 0;
+            *paths = 0;
+            u16::from(refusal)
+        }
+    }
 }
 
 // `judge::judge`. The fault is 0 for right, 1 for an extract that is empty or names a missing column, 2 for a forbidden set contained, 3 for a column shared,
@@ -138,7 +169,12 @@ pub fn vjolthar_judge(
     ensures { Tells (record { columns = columns; forbidden = forbidden.now; marks = marks.now }) split.now
         (record { refusal = result; fault = fault.new; first = first.new; second = second.new }) }
 {
-    let told = verdicts::numbers_of(judge::judge(columns, forbidden, marks, split));
+    let numbers = Numbers {
+        columns,
+        forbidden,
+        marks,
+    };
+    let told = Told::from(judge::judge(numbers, split));
     *fault = told.fault;
     *first = told.first;
     *second = told.second;
@@ -156,9 +192,21 @@ pub fn vjolthar_plan(
     ensures { Plans (record { columns = columns; forbidden = forbidden.now; marks = marks.now })
         extracts.old (record { refusal = result; count = count.new }) extracts.new }
 {
-    let planned = planner::plan(columns, forbidden, marks, extracts);
-    *count = planned.count;
-    planned.refusal
+    let numbers = Numbers {
+        columns,
+        forbidden,
+        marks,
+    };
+    match planner::plan(numbers, extracts) {
+        Ok(planned) => {
+            *count = planned;
+            0
+        }
+        Err(refused) => {
+            *count = 0;
+            u16::from(refused)
+        }
+    }
 }
 
 // `report::report`
@@ -167,7 +215,15 @@ pub fn vjolthar_report(text: &[u8], page: &mut [u8], place: &mut usize, length: 
         (record { refusal = result; place = place.new; length = length.new }) page.new }
 {
     let reported = report::report(text, page);
-    *place = reported.place;
     *length = reported.length;
-    reported.refusal
+    match reported.outcome {
+        Ok(()) => {
+            *place = 0;
+            0
+        }
+        Err(fault) => {
+            *place = fault.place;
+            u16::from(fault.refusal)
+        }
+    }
 }

@@ -3,10 +3,10 @@ ghost use Rattle.std.specs.Prelude.{◌≡◌};
 ghost use Rattle.judge.specs.Answers.{verdict_of};
 ghost use Rattle.vjolthar.specs.Verdicts.{told_of};
 
-use job::refusals::NUMBERS_UNFIT;
+use job::refusals::Refusal;
 use judge::Verdict;
 
-// The kinds of a fault, counted from 1 in the order of 01's sentence.
+// The kinds of a fault, counted from 1 in the order of 01's sentence. They are numbers because C has no other form for them.
 const RIGHT: u16 = 0;
 
 const IMPROPER: u16 = 1;
@@ -38,21 +38,22 @@ fn at_fault(fault: u16, first: usize, second: usize) -> Told
     }
 }
 
-// The answer's numbers.
-pub fn numbers_of(verdict: Verdict) -> Told
-    ensures { result ≡ told_of (verdict_of verdict) }
-{
-    match verdict {
-        Verdict::Unfit => Told {
-            refusal: NUMBERS_UNFIT,
-            fault: 0,
-            first: 0,
-            second: 0,
-        },
-        Verdict::Improper(i) => at_fault(IMPROPER, i, 0),
-        Verdict::Forbids(i, j) => at_fault(FORBIDS, i, j),
-        Verdict::Shares(i, j) => at_fault(SHARES, i, j),
-        Verdict::Unmet(k) => at_fault(UNMET, k, 0),
-        Verdict::Right => at_fault(RIGHT, 0, 0),
+impl From<Verdict> for Told {
+    ghost from_gives = { λ verdict told. told ≡ told_of (verdict_of verdict) };
+
+    fn from(verdict: Verdict) -> Told {
+        match verdict {
+            Verdict::Unfit => Told {
+                refusal: u16::from(Refusal::NumbersUnfit),
+                fault: 0,
+                first: 0,
+                second: 0,
+            },
+            Verdict::Improper(i) => at_fault(IMPROPER, i, 0),
+            Verdict::Forbids(i, j) => at_fault(FORBIDS, i, j),
+            Verdict::Shares(i, j) => at_fault(SHARES, i, j),
+            Verdict::Unmet(k) => at_fault(UNMET, k, 0),
+            Verdict::Right => at_fault(RIGHT, 0, 0),
+        }
     }
 }
