@@ -4,11 +4,17 @@ use mathlib.Core.List.{List, [], ◌∷◌, ◌++◌}
 use Prim.Native.Nat.{ℕ, ◌+◌, ◌<◌, ◌≤◌}
 use native.Mathlib.Omega.{arith}
 use lib.ListN.{length, length-append}
+use Rattle.rules.specs.Marks.{and_mark, or_mark}
 use Rattle.rules.specs.Names.{Spot}
 use Rattle.rules.specs.Phrases.{Formula, Join, ors, ands, join_of, rest, Stands, last, next}
 use Rattle.rules.specs.Sheets.{marks_in}
 use Rattle.rules.proofs.MarkedNeeds.{length_marks}
-use Rattle.phrases.specs.Readers.{mark_of, marks_long}
+use Rattle.phrases.specs.Readers.{marks_long}
+
+-- the mark of a join
+abbrev pub mark_of : Join → ℕ
+mark_of ors = or_mark
+mark_of ands = and_mark
 
 -- a join's mark stands behind the marks of its operands
 pub marks_join : (columns : List Spot) (j : Join) (u v : Formula)

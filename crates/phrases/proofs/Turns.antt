@@ -12,8 +12,8 @@ use Rattle.rules.specs.Sheets.{marks_in}
 use Rattle.rules.proofs.Signs.{inside}
 use Rattle.rules.proofs.Phrases.{phrase_unique, operand_moves, phrase_moves}
 use Rattle.phrases.specs.declared.Read.{Read}
-use Rattle.phrases.specs.Readers.{mark_of, marks_long, Readable, Wrote, Marked}
-use Rattle.phrases.proofs.Counts.{marks_join, long_join, rest_long}
+use Rattle.phrases.specs.Readers.{marks_long, Readable, Wrote, Marked}
+use Rattle.phrases.proofs.Counts.{mark_of, marks_join, long_join, rest_long}
 
 -- the place behind what was read, and the number of marks
 abbrev pub read : ℕ → ℕ → Read
@@ -22,10 +22,6 @@ read place count = record { at = place; marked = count }
 -- one more mark behind the first n
 pub take_set : (xs : List ℕ) (n x : ℕ) → n < length xs → take (n + 1) (set xs n x) ≡ take n xs ++ (x ∷ [])
 take_set xs n x h = rw add-one (take-suc-set xs n x h)
-
--- the byte read is the join's sign
-pub sign_here : {b sign x y : ℕ} → b ≡ x → sign ≡ y → b ≡ sign → x ≡ y
-sign_here e f g = sym e ∙ g ∙ f
 
 -- a join's sign lies within the text
 pub sign_within : (s : List ℕ) (p : ℕ) (j : Join) → byte_at s p ≡ sign_of j → p < length s

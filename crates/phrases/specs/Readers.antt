@@ -1,23 +1,10 @@
 -- What the readers of a need line ask and promise.
 use Rattle.std.specs.Prelude.{◌≡◌, List, [], ◌++◌, ℕ, ◌+◌, ◌≤◌, length, take}
 use Rattle.rules.specs.Names.{Spot}
-use Rattle.rules.specs.Marks.{and_mark, or_mark}
-use Rattle.rules.specs.Phrases.{Join as JoinKind, ors, ands, Formula, Kind, Stands}
+use Rattle.rules.specs.Phrases.{Formula, Kind, Stands}
 use Rattle.rules.specs.Sheets.{marks_in}
 use Rattle.naming.specs.Words.{Words, columns_from}
-use Rattle.phrases.specs.declared.Join.{Join}
-use Rattle.phrases.specs.declared.Join.TheVariants.{Or, And}
 use Rattle.phrases.specs.declared.Read.{Read}
-
--- the kind of list, in the word of the rules
-abbrev pub joins : Join → JoinKind
-joins Or = ors
-joins And = ands
-
--- the mark of a join
-abbrev pub mark_of : JoinKind → ℕ
-mark_of ors = or_mark
-mark_of ands = and_mark
 
 -- how many marks a formula has; that doesn't depend on which columns its names are
 abbrev pub marks_long : Formula → ℕ

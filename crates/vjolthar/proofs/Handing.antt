@@ -11,14 +11,13 @@ use Rattle.rules.specs.Readings.{Reading, refused, taken}
 use Rattle.rules.proofs.Lists.{or_neither}
 use Rattle.rules.proofs.Written.{length_written}
 use Rattle.job.specs.Records.{job_with, no_job}
-use Rattle.text.specs.declared.JobRead.{JobRead}
-use Rattle.text.specs.Promises.{Takes, read_of}
+use Rattle.text.specs.Promises.{Answer, Takes, read_of}
 use Rattle.text.specs.Tables.{table_bytes, name_rows, name_table}
 use Rattle.text.proofs.Promises.{some_reading}
 use Rattle.vjolthar.specs.Handed.{JobSlices, too_short, not_handed, numbers_of, slices_with, Hands}
 
 -- what was read has a number in each of its places, used or not
-pub record Filled (r : JobRead) : Type 0 where
+pub record Filled (r : Answer) : Type 0 where
   pub forbidden : length r.job.forbidden ≡ 32
   pub marks : length r.job.marks ≡ 512
   pub names : length r.names ≡ table_bytes
@@ -31,7 +30,7 @@ unfolding job_with no_job name_table
 reading_filled (refused number at) = record { forbidden = over [] 32; marks = over [] 512; names = over (name_rows []) table_bytes }
 reading_filled (taken q names) = record { forbidden = over q.forbidden 32; marks = over q.marks 512; names = over (name_rows names) table_bytes }
 
-pub filled : {s : List ℕ} {r : JobRead} → Takes s r → Filled r
+pub filled : {s : List ℕ} {r : Answer} → Takes s r → Filled r
 filled a = rw a.answered (reading_filled a.reading)
 
 module _ (s : List ℕ) (old : JobSlices) where
@@ -64,7 +63,7 @@ module _ (s : List ℕ) (old : JobSlices) where
     unfolding too_short
     long n = rw (le-ltb (length old.forbidden) 32 f, le-ltb (length old.marks) 512 m, le-ltb (length old.names) table_bytes n) refl
 
-    pub hands_read : table_bytes ≤ length old.names → {r : JobRead} → Takes s r → {new : JobSlices} → new.forbidden ≡ written r.job.forbidden old.forbidden
+    pub hands_read : table_bytes ≤ length old.names → {r : Answer} → Takes s r → {new : JobSlices} → new.forbidden ≡ written r.job.forbidden old.forbidden
         → new.marks ≡ written r.job.marks old.marks → new.names ≡ written r.names old.names
         → Hands s old (numbers_of r) new
     unfolding slices_with

@@ -16,8 +16,7 @@ use Rattle.rules.proofs.Written.{take_written, drop_written}
 use Rattle.judge.specs.declared.Verdict.{Verdict}
 use Rattle.judge.specs.Answers.{verdict_of}
 use Rattle.judge.specs.Promises.{Judges}
-use Rattle.text.specs.declared.JobRead.{JobRead}
-use Rattle.text.specs.Promises.{Takes}
+use Rattle.text.specs.Promises.{Answer, Takes}
 use Rattle.text.specs.Tables.{table_bytes}
 use Rattle.text.proofs.Promises.{one_answer, refusal_numbers}
 use Rattle.vjolthar.specs.declared.verdicts.Told.{Told}
@@ -61,12 +60,12 @@ told_apart u v e = sym (back u) ∙ ap said_by e ∙ back v
 pub one_handing : {s : List ℕ} {old new after : JobSlices} {t u : Handed} → Hands s old t new → Hands s old u after → (t ≡ u) × (new ≡ after)
 one_handing {old} a b =
     let same = one_answer a.takes b.takes in (
-      a.answered ∙ ap (λ (r : JobRead). cond (too_short old) not_handed (numbers_of r)) same ∙ sym b.answered,
-      a.lent ∙ ap (λ (r : JobRead). cond (too_short old) old (slices_with r old)) same ∙ sym b.lent,
+      a.answered ∙ ap (λ (r : Answer). cond (too_short old) not_handed (numbers_of r)) same ∙ sym b.answered,
+      a.lent ∙ ap (λ (r : Answer). cond (too_short old) old (slices_with r old)) same ∙ sym b.lent,
     )
 
 -- the numbers and the first places of the slices are what was read, and every place after them is as it was
-pub record IsRead (r : JobRead) (old : JobSlices) (t : Handed) (new : JobSlices) : Type 0 where
+pub record IsRead (r : Answer) (old : JobSlices) (t : Handed) (new : JobSlices) : Type 0 where
   pub numbers : t ≡ numbers_of r
   pub forbidden : take 32 new.forbidden ≡ r.job.forbidden
   pub marks : take 512 new.marks ≡ r.job.marks
@@ -107,7 +106,7 @@ module _ {s : List ℕ} {old new : JobSlices} {t : Handed} (a : Hands s old t ne
   short_nothing e = a.lent ∙ rw e refl
 
   -- else the outcome is what the call itself answers
-  pub hands_read_whole : {r : JobRead} → Takes s r → too_short old ≡ false → IsRead r old t new
+  pub hands_read_whole : {r : Answer} → Takes s r → too_short old ≡ false → IsRead r old t new
   unfolding slices_with
   hands_read_whole {r} b e =
       let same = one_answer a.takes b in

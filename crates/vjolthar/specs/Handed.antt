@@ -2,8 +2,7 @@
 use Rattle.std.specs.Prelude.{◌≡◌, Bool, cond, ◌||◌, List, ℕ, ltb, length}
 use Rattle.rules.specs.Lists.{written}
 use Rattle.rules.specs.Refusals.{slice_too_short}
-use Rattle.text.specs.declared.JobRead.{JobRead}
-use Rattle.text.specs.Promises.{Takes}
+use Rattle.text.specs.Promises.{Answer, Takes}
 use Rattle.text.specs.Tables.{table_bytes}
 
 -- the lent slices
@@ -30,7 +29,7 @@ unfoldable pub not_handed : Handed
 not_handed = record { refusal = slice_too_short; place = 0; columns = 0; sets = 0; needs = 0; marked = 0 }
 
 -- the numbers of what was read
-unfoldable pub numbers_of : JobRead → Handed
+unfoldable pub numbers_of : Answer → Handed
 numbers_of r =
     record {
       refusal = r.refusal;
@@ -42,7 +41,7 @@ numbers_of r =
     }
 
 -- the slices with what was read in their first places, the unused ones among them too; the rest stays
-unfoldable pub slices_with : JobRead → JobSlices → JobSlices
+unfoldable pub slices_with : Answer → JobSlices → JobSlices
 slices_with r old =
     record {
       forbidden = written r.job.forbidden old.forbidden;
@@ -52,7 +51,7 @@ slices_with r old =
 
 -- the promise of `vjolthar_read`
 pub record Hands (s : List ℕ) (old : JobSlices) (answer : Handed) (new : JobSlices) : Type 0 where
-  pub read : JobRead
+  pub read : Answer
   pub takes : Takes s read
   pub answered : answer ≡ cond (too_short old) not_handed (numbers_of read)
   pub lent : new ≡ cond (too_short old) old (slices_with read old)
