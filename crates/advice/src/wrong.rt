@@ -75,16 +75,17 @@ pub fn wrong_at(text: &[u8], place: usize, column: usize) -> Wrong
 }
 
 // What is wrong at a place after a line's key: a name too long, a bracket too deep, a digit before a name, or another sign.
-#[tactic(auto, unfolding(crate::specs::Sentences::wrong_sign))]
+#[tactic(auto, using(crate::proofs::Before::full_before), unfolding(crate::specs::Sentences::wrong_sign))]
 fn wrong_sign(text: &[u8], place: usize) -> Wrong
     requires { place < length text.now }
     ensures { result ≡ wrong_sign text.now place }
 {
     let sign = text[place];
-    if in_name(sign) && name_full(text, place) {
+    let before = &text[..place];
+    if in_name(sign) && name_full(before) {
         return Wrong::LongName;
     }
-    if sign == b'(' && MOST_BRACKETS <= open_before(text, place) {
+    if sign == b'(' && MOST_BRACKETS <= open_before(before) {
         return Wrong::DeepBracket;
     }
     // the first place has none before it, but belongs to a key
@@ -103,23 +104,20 @@ fn in_key(text: &[u8], place: usize, column: usize) -> bool
     text[line..place].iter().all(|sign| *sign != b'=')
 }
 
-// Whether as many letters and digits stand before a place as a name may have.
-fn name_full(text: &[u8], place: usize) -> bool
-    requires { place ≤ length text.now }
-    ensures { result ≡ name_full text.now place }
+// Whether these bytes end with as many letters and digits as a name may have.
+fn name_full(before: &[u8]) -> bool
+    ensures { result ≡ name_full before.now (length before.now) }
 {
-    MOST_NAME_BYTES <= place
-        && text[place - MOST_NAME_BYTES..place]
+    MOST_NAME_BYTES <= before.len()
+        && before[before.len() - MOST_NAME_BYTES..]
             .iter()
             .all(|sign| in_name(*sign))
 }
 
-// How many brackets are open before a place.
-fn open_before(text: &[u8], place: usize) -> usize
-    requires { place ≤ length text.now }
-    ensures { result ≡ open_after 0 (take place text.now) }
+// How many brackets are open behind these bytes.
+fn open_before(before: &[u8]) -> usize
+    ensures { result ≡ open_after 0 before.now }
 {
-    let before = &text[..place];
     let mut opened: usize = 0;
     for sign in before {
         match *sign {
