@@ -2,83 +2,82 @@
 use mathlib.Core.Path.{◌≡◌, refl, sym, ◌∙◌}
 use mathlib.Core.Bool.{Bool, true, false, cond}
 use mathlib.Core.List.{List, [], ◌∷◌, ◌++◌, map}
-use Rattle.rules.specs.Options.{Option, None, Some, unwrap_or, option_or}
-use Prim.Native.Nat.{ℕ, ◌≤◌}
-use native.Mathlib.Omega.{arith}
-use lib.ListN.{length}
-use Rattle.rules.specs.Sets.{most_columns}
+use Rattle.rules.proofs.Options.{Option, None, Some, option_or, option_map, none-ne-some, some-ne-none}
+use Prim.Native.Nat.{ℕ}
 use Rattle.rules.specs.Refusals.{name_twice, name_unknown}
 use Rattle.rules.specs.Names.{Spot, same_name}
 use Rattle.rules.specs.Texts.{Line}
-use Rattle.rules.specs.Sheets.{column_named, stands_in, first_name_fault, lines_fault, column_fault, need_fault, forbid_fault}
+use Rattle.rules.specs.Sheets.{Refusal, refusal, column_named, stands_in, first_name_fault, lines_fault, column_fault, need_fault, forbid_fault}
 use Rattle.rules.proofs.Lists.{none_first}
 use Rattle.rules.proofs.ListTests.{first_below}
 use Rattle.naming.specs.Words.{Between}
-use Rattle.faults.specs.Refused.{number_in, refusal_in}
-use Rattle.faults.specs.declared.fault.Fault.{Fault}
-use Rattle.faults.proofs.Refusing.{no_number, a_number, a_refusal, refused, passed}
+use Rattle.faults.proofs.Refusing.{first_there, then_next, map_first}
 
 -- ---- one name
 
--- a name that stands before is there twice
-pub twice : (before : List Spot) (x : Spot) → stands_in before x ≡ true → number_in name_twice ≡ column_fault before x
-unfolding column_fault number_in
-twice before x e = rw e
+module _ (at : ℕ) where
+  -- a number at the name's place
+  abbrev pub located : Option ℕ → Option Refusal
+  located = option_map (λ number. refusal number at)
 
--- else it is not
-pub once : (before : List Spot) (x : Spot) → stands_in before x ≡ false → number_in 0 ≡ column_fault before x
-unfolding column_fault number_in
-once before x e = rw e
+  -- a name that stands before is there twice
+  pub twice : (before : List Spot) (x : Spot) → stands_in before x ≡ true → Some (refusal name_twice at) ≡ located (column_fault before x)
+  unfolding column_fault
+  twice before x e = rw e
 
-module _ (columns before : List Spot) (x : Spot) {r : ℕ} (found : r ≡ unwrap_or (column_named columns x.name) most_columns)
-    (few : length columns ≤ most_columns) where
-  -- a name that is no column is unknown
-  pub not_known : r ≡ most_columns → number_in name_unknown ≡ need_fault columns before x
-  unfolding need_fault number_in stands_in column_named
-  not_known e = go (stands_in columns x) refl
-    where
-      go : (b : Bool) → stands_in columns x ≡ b → ◌≡◌ {A = Option ℕ} (Some name_unknown) (cond b None (Some name_unknown))
-      go true f =
-          let first = first_below (λ c. same_name c.name x.name) columns f in
-          absurd (omega (arith, first.2, rw first.1 at found))
-      go false f = refl
+  -- else it is not
+  pub once : (before : List Spot) (x : Spot) → stands_in before x ≡ false → None ≡ located (column_fault before x)
+  unfolding column_fault
+  once before x e = rw e
 
-  -- else it is known
-  pub known : (r ≡ most_columns → ⊥) → number_in 0 ≡ need_fault columns before x
-  unfolding need_fault number_in stands_in column_named
-  known n = go (stands_in columns x) refl
-    where
-      none_there : stands_in columns x ≡ false → r ≡ most_columns
-      none_there f = found ∙ rw (none_first (λ c. same_name c.name x.name) columns f)
+  module _ (columns before : List Spot) (x : Spot) where
+    -- a name that is no column is unknown
+    pub not_known : None ≡ column_named columns x.name → Some (refusal name_unknown at) ≡ located (need_fault columns before x)
+    unfolding need_fault stands_in column_named
+    not_known e = go (stands_in columns x) refl
+      where
+        go : (b : Bool) → stands_in columns x ≡ b → Some (refusal name_unknown at) ≡ located (cond b None (Some name_unknown))
+        go true f =
+            let first = first_below (λ c. same_name c.name x.name) columns f in
+            absurd (none-ne-some first.0 (e ∙ first.1))
+        go false f = refl
 
-      go : (b : Bool) → stands_in columns x ≡ b → ◌≡◌ {A = Option ℕ} None (cond b None (Some name_unknown))
-      go true f = refl
-      go false f = absurd (n (none_there f))
+    -- else it is known
+    pub known : {k : ℕ} → Some k ≡ column_named columns x.name → None ≡ located (need_fault columns before x)
+    unfolding need_fault stands_in column_named
+    known {k} e = go (stands_in columns x) refl
+      where
+        go : (b : Bool) → stands_in columns x ≡ b → None ≡ located (cond b None (Some name_unknown))
+        go true f = refl
+        go false f = absurd (some-ne-none k (e ∙ none_first (λ c. same_name c.name x.name) columns f))
 
--- a name in a forbid line that is unknown is at fault for that
-pub forbid_unknown : (columns before : List Spot) (x : Spot) {n : ℕ} → number_in n ≡ need_fault columns before x → (n ≡ 0 → ⊥)
-    → number_in n ≡ forbid_fault columns before x
-unfolding forbid_fault
-forbid_unknown columns before x e f = e ∙ sym (rw (a_number e f))
+  module _ (columns before : List Spot) (x : Spot) where
+    -- in a forbid line a name is at fault as an unknown one before it is for standing there twice
+    forbid_parts : located (forbid_fault columns before x) ≡ option_or (located (need_fault columns before x)) (located (column_fault before x))
+    unfolding forbid_fault
+    forbid_parts = map_first (λ number. refusal number at) (need_fault columns before x) (column_fault before x)
 
--- else it is at fault if it stands before
-pub forbid_known : (columns before : List Spot) (x : Spot) {n : ℕ} → number_in n ≡ need_fault columns before x → n ≡ 0
-    → forbid_fault columns before x ≡ column_fault before x
-unfolding forbid_fault
-forbid_known columns before x e z = rw (no_number e z)
+    -- a name in a forbid line that is unknown is at fault for that
+    pub forbid_unknown : {y : Refusal} → Some y ≡ located (need_fault columns before x) → Some y ≡ located (forbid_fault columns before x)
+    forbid_unknown e = first_there e _ ∙ sym forbid_parts
+
+    -- else it is at fault if it stands before
+    pub forbid_known : {o : Option Refusal} → None ≡ located (need_fault columns before x) → o ≡ located (column_fault before x)
+        → o ≡ located (forbid_fault columns before x)
+    forbid_known e f = then_next e f ∙ sym forbid_parts
 
 -- ---- the names of a line
 
-module _ (fault : List Spot → Spot → Option ℕ) (before : List Spot) (x : Spot) (names : List Spot) {n : ℕ} (e : number_in n ≡ fault before x) where
+module _ (fault : List Spot → Spot → Option ℕ) (before : List Spot) (x : Spot) (names : List Spot) where
   -- the first name is at fault
-  pub first_faulty : (n ≡ 0 → ⊥) → refusal_in (record { number = n; place = x.place }) ≡ first_name_fault fault before (x ∷ names)
+  pub first_faulty : {y : Refusal} → Some y ≡ located x.place (fault before x) → Some y ≡ first_name_fault fault before (x ∷ names)
   unfolding first_name_fault
-  first_faulty f = a_refusal _ f ∙ sym (rw (a_number e f))
+  first_faulty e = first_there e _
 
   -- or the others are left
-  pub first_right : n ≡ 0 → first_name_fault fault before (x ∷ names) ≡ first_name_fault fault (before ++ (x ∷ [])) names
+  pub first_right : None ≡ located x.place (fault before x) → first_name_fault fault before (x ∷ names) ≡ first_name_fault fault (before ++ (x ∷ [])) names
   unfolding first_name_fault
-  first_right z = rw (no_number e z)
+  first_right e = sym (then_next e refl)
 
 -- none of the names before this place is at fault: the first fault of all is the first of those left
 pub record RightBefore (s : List ℕ) (fault : List Spot → Spot → Option ℕ) (from place : ℕ) (names later : List Spot) : Type 0 where
@@ -94,17 +93,17 @@ all_right right = right.same
 
 -- ---- lines of names
 
-module _ (fault : List Spot → Spot → Option ℕ) (f : Fault) (l : Line (List Spot)) (lines : List (Line (List Spot)))
-    (e : refusal_in f ≡ first_name_fault fault [] l.value) where
+module _ (fault : List Spot → Spot → Option ℕ) (l : Line (List Spot)) (lines : List (Line (List Spot))) where
   -- a name of the first line is at fault
-  pub line_faulty : (f.number ≡ 0 → ⊥) → refusal_in f ≡ lines_fault fault (map (λ l. l.value) (l ∷ lines))
+  pub line_faulty : {x : Refusal} → Some x ≡ first_name_fault fault [] l.value → Some x ≡ lines_fault fault (map (λ l. l.value) (l ∷ lines))
   unfolding lines_fault
-  line_faulty n = refused f e _ n
+  line_faulty e = first_there e _
 
   -- or the other lines are left
-  pub line_right : f.number ≡ 0 → lines_fault fault (map (λ l. l.value) (l ∷ lines)) ≡ lines_fault fault (map (λ l. l.value) lines)
+  pub line_right : None ≡ first_name_fault fault [] l.value
+      → lines_fault fault (map (λ l. l.value) (l ∷ lines)) ≡ lines_fault fault (map (λ l. l.value) lines)
   unfolding lines_fault
-  line_right z = passed f e _ z
+  line_right e = sym (then_next e refl)
 
 -- in no line there is no fault
 pub no_line_faulty : (fault : List Spot → Spot → Option ℕ) → lines_fault fault [] ≡ None

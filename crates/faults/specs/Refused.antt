@@ -1,11 +1,10 @@
--- A fault as the code has it: the number 0 stands for none.
-use Rattle.std.specs.Prelude.{cond, ℕ, eqb}
-use Rattle.rules.specs.Options.{Option, None, Some}
-use Rattle.rules.specs.Sheets.{Refusal, refusal}
-use Rattle.faults.specs.declared.fault.Fault.{Fault}
+-- What an answer refuses, in the words of the rules.
+use Rattle.std.specs.Prelude.{Result, Ok, Err, Option, None, Some}
+use Rattle.rules.specs.Sheets.{Refusal as Refused}
+use Rattle.job.specs.declared.refusals.Fault.{Fault}
+use Rattle.job.specs.Refusals.{refusal_at}
 
-unfoldable pub number_in : ℕ → Option ℕ
-number_in number = cond (eqb number 0) None (Some number)
-
-unfoldable pub refusal_in : Fault → Option Refusal
-refusal_in f = cond (eqb f.number 0) None (Some (refusal f.number f.place))
+-- a refusal's number and place
+abbrev pub refusal_in : Result (Unit {0}) Fault → Option Refused
+refusal_in (Ok x) = None
+refusal_in (Err f) = Some (refusal_at f)

@@ -6,9 +6,8 @@ ghost use Rattle.rules.specs.Sheets.{end_fault};
 ghost use Rattle.faults.specs.Refused.{refusal_in};
 ghost use Rattle.faults.specs.Kinds.{Sectioned};
 
-use crate::fault::{Fault, no_fault};
 use crate::sections::Places;
-use job::refusals::END_NUMBER_OTHER;
+use job::refusals::{Fault, Refusal};
 use naming::sections::{Section, width};
 use naming::signs::byte;
 
@@ -16,11 +15,7 @@ use naming::signs::byte;
 fn worth(digit: u8) -> usize
     ensures { result ≡ digit - 48 }
 {
-    if digit < b'0' {
-        0
-    } else {
-        (digit - b'0') as usize
-    }
+    usize::from(digit.saturating_sub(b'0'))
 }
 
 // The number of one or two digits at a place, with a line's end behind it.
@@ -40,20 +35,20 @@ fn number(text: &[u8], at: usize) -> usize
 }
 
 // The number at the end is another than that of the forbid and need lines.
-pub fn end_fault(text: &[u8], places: Places) -> Fault
+pub fn end_fault(text: &[u8], places: Places) -> Result<(), Fault>
     ensures { (sheet : Sheet) (form : OfForm text.now sheet) → Sectioned text.now sheet form places
         → refusal_in result ≡ end_fault sheet }
 {
     // so that the sum can't overflow; never so in a text of the form
     if text.len() <= places.end {
-        return no_fault();
+        return Ok(());
     }
     let at = places.end + width(Section::End);
     if number(text, at) == places.lines {
-        return no_fault();
+        return Ok(());
     }
-    Fault {
-        number: END_NUMBER_OTHER,
+    Err(Fault {
+        refusal: Refusal::EndNumberOther,
         place: at,
-    }
+    })
 }

@@ -6,7 +6,8 @@ ghost use Rattle.naming.specs.Words.{Rows};
 ghost use Rattle.naming.specs.Sections.{key_of};
 ghost use Rattle.faults.specs.Kinds.{Walks, Sectioned};
 
-use naming::sections::{Section, key_stands, next_line};
+use crate::walks::Lines;
+use naming::sections::{Section, next_line};
 
 // How many lines there are, and the place behind them.
 #[derive(Clone, Copy)]
@@ -21,13 +22,16 @@ pub fn walk(text: &[u8], section: Section, from: usize) -> Walked
     ensures is { (q : ℕ) (rows : List (Line (List Spot))) → Rows text.now (key_of section) from q rows
         → Walks q rows result }
 {
+    let mut walk = Lines::new(text, section, from);
     let mut lines = 0;
-    let mut place = from;
-    while key_stands(text, section, place) {
-        place = next_line(text, section, place);
+    // no `count`, since the place behind the lines is wanted too
+    while walk.next().is_some() {
         lines += 1;
     }
-    Walked { lines, to: place }
+    Walked {
+        lines,
+        to: walk.place,
+    }
 }
 
 // Where the forbid lines, the need lines and the end line begin, and how many forbid and need lines there are.

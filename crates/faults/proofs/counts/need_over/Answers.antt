@@ -1,45 +1,68 @@
--- `faults::counts::need_over` meets its contract. The invariant: of the lines left so many fewer may stand as were counted, and no line before
--- has too many names. Assumes nothing.
-use mathlib.Core.Path.{◌∙◌}
+-- `faults::counts::need_over` meets its contract. Assumes nothing.
+use mathlib.Core.Path.{refl, sym, ap, ◌∙◌}
 use Prim.Native.Nat.{◌-◌, ◌<◌}
 use native.Mathlib.Omega.{arith}
+use lib.ListN.{length}
+use Rattle.std.proofs.Common.{rules}
+use Rattle.rules.specs.Options.{option_map}
 use Rattle.rules.specs.Numbers.{most_needs}
+use Rattle.rules.specs.Refusals.{too_many_parts}
 use Rattle.rules.specs.Texts.{line}
-use Rattle.faults.proofs.Left.{row_here, row_next, row_end}
-use Rattle.faults.proofs.Counted.{too_many, not_many, no_row_over, row_over, row_refused, row_passed}
+use Rattle.rules.specs.Sheets.{refusal}
+use Rattle.faults.proofs.Left.{rows_start, row_here, row_next, row_end}
+use Rattle.faults.proofs.Refusing.{passed_on}
+use Rattle.faults.proofs.Counted.{no_row_over, row_over, row_refused, row_passed}
 use Rattle.faults.proofs.counts.need_over.Goals as goal
+
+pub loop-count-init : goal.loop-count-init
+loop-count-init c =
+    let begun = c.into_iter-count-iterator.ensures.into_iter_gives in
+    let none_yet = ap (λ e. e.count) begun ∙ c.enumerate-count-items.ensures.count in
+    let walk = ap (λ e. e.iter) begun ∙ c.enumerate-count-items.ensures.source in
+    record { goes = search rules; ends = tt; text = ap (λ w. w.text.now) walk ∙ c.new.ensures.text; few = omega arith; left = λ q rows r. rw (walk, none_yet) (rows_start c.new.ensures r refl) }
+
+pub overflow_add-place : goal.overflow_add-place
+overflow_add-place c =
+    let step = c.in-Some.ensures.steps in
+    omega (arith, step.0.inside, step.0.here, ap length c.loop-count.invariant.text, c.width-before.ensures)
 
 pub returns-then-count-eq-MOST_NEEDS : goal.returns-then-count-eq-MOST_NEEDS
 returns-then-count-eq-MOST_NEEDS c =
-    let here = c.key_stands.ensures.there c.loop-from-test.true in
-    let l = c.loop-from in
-    λ q rows r. let h = row_here (l.invariant.1 q rows r) here in
-    too_many l.place (h.4 ∙ row_over most_needs l.count (line l.place h.1) h.2 c.if-count-eq-MOST_NEEDS.true)
+    let step = c.in-Some.ensures.steps in
+    let all = sym step.1 ∙ c.if-count-eq-MOST_NEEDS.true in
+    λ q rows r. let h = row_here (c.loop-count.invariant.left q rows r) step.0 in
+    c.too_many.ensures
+    ∙ sym (ap (option_map (refusal too_many_parts)) (h.4 ∙ row_over most_needs c.loop-count.count-iterator.count (line c.in-Some.place h.1) h.2 all))
 
-pub returns-then-name-ne0 : goal.returns-then-name-ne0
-returns-then-name-ne0 c =
-    let here = c.key_stands.ensures.there c.loop-from-test.true in
-    let l = c.loop-from in
-    let more : l.count < most_needs = omega (arith, l.invariant.0, c.if-count-eq-MOST_NEEDS.false) in
-    λ q rows r. let h = row_here (l.invariant.1 q rows r) here in
-    rw h.4
-    (row_refused c.name_over-name.result most_needs l.count (line l.place h.1) h.2 more
-    (c.name_over-name.ensures h.0 h.1 (rw c.width-before.ensures h.3)) c.if-name-ne0.true)
+pub returns-in_err-name_over : goal.returns-in_err-name_over
+returns-in_err-name_over c =
+    let step = c.in-Some.ensures.steps in
+    let l = c.loop-count in
+    let more : l.count-iterator.count < most_needs = omega (arith, l.invariant.few, step.1, c.if-count-eq-MOST_NEEDS.false) in
+    λ q rows r. let h = row_here (l.invariant.left q rows r) step.0 in
+    passed_on c.from_residual.result _ c.from_residual.ensures.1
+    (rw h.4
+    (row_refused most_needs l.count-iterator.count (line c.in-Some.place h.1) h.2 more
+    (c.in_err-name_over.ensures h.0 h.1 (rw c.width-before.ensures h.3))))
 
-pub loop-from-preserved : goal.loop-from-preserved
-loop-from-preserved c =
-    let here = c.key_stands.ensures.there c.loop-from-test.true in
-    let l = c.loop-from in
-    let more : l.count < most_needs = omega (arith, l.invariant.0, c.if-count-eq-MOST_NEEDS.false) in (
-      omega arith,
-      λ q rows r. row_next (l.invariant.1 q rows r) here c.next_line-place.ensures.is
+pub loop-count-preserved : goal.loop-count-preserved
+loop-count-preserved c =
+    let step = c.in-Some.ensures.steps in
+    let l = c.loop-count in
+    let more : l.count-iterator.count < most_needs = omega (arith, l.invariant.few, step.1, c.if-count-eq-MOST_NEEDS.false) in
+    record {
+      goes = search rules;
+      ends = tt;
+      text = step.0.text ∙ l.invariant.text;
+      few = omega (arith, step.2);
+      left = λ q rows r. row_next (l.invariant.left q rows r) step.0
           (λ to names later w e.
-          e ∙ row_passed c.name_over-name.result most_needs l.count (line l.place names) later more
-          (c.name_over-name.ensures to names (rw c.width-before.ensures w)) c.if-name-ne0.false),
-    )
+          e ∙ row_passed most_needs l.count-iterator.count (line c.in-Some.place names) later more
+          (c.in_ok-name_over.ensures to names (rw c.width-before.ensures w)) ∙ rw step.2);
+    }
 
 pub returns : goal.returns
 returns c =
-    let l = c.loop-from in
-    let other = c.key_stands.ensures.missing c.loop-from-test.false in
-    λ q rows r. not_many c.no_fault.result c.no_fault.ensures ((row_end (l.invariant.1 q rows r) other).1 ∙ no_row_over (most_needs - l.count))
+    let l = c.loop-count in
+    λ q rows r. sym (ap (option_map (refusal too_many_parts)) ((row_end (l.invariant.left q rows r) c.in-None.ensures.steps.0).1
+    ∙ no_row_over (most_needs - l.count-iterator.count)))

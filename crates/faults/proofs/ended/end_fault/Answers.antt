@@ -1,7 +1,5 @@
 -- `faults::ended::end_fault` meets its contract. Assumes nothing.
-use mathlib.Core.Path.{◌∙◌}
 use native.Mathlib.Omega.{arith}
-use Rattle.faults.specs.Refused.{refusal_in}
 use Rattle.faults.proofs.Parts.{end_inside, end_same, end_other}
 use Rattle.faults.proofs.ended.end_fault.Goals as goal
 
@@ -9,12 +7,9 @@ pub returns-then-text-places : goal.returns-then-text-places
 returns-then-text-places c = λ sheet form at. absurd (omega (arith, end_inside form at, c.if-text-places.true))
 
 pub returns-then-number-places : goal.returns-then-number-places
-returns-then-number-places c =
-    λ sheet form at. c.no_fault-then-number-places.ensures
-    ∙ end_same form at (rw c.width.ensures at c.number.ensures) c.if-number-places.true
+returns-then-number-places c = λ sheet form at. end_same form at (rw c.width.ensures at c.number.ensures) c.if-number-places.true
 
 pub returns : goal.returns
-unfolding refusal_in
 returns c =
     λ sheet form at. rw c.width.ensures
     (end_other form at (rw c.width.ensures at c.number.ensures) c.if-number-places.false)

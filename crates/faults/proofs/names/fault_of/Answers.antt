@@ -1,31 +1,27 @@
 -- `faults::names::fault_of` meets its contract. Assumes nothing.
-use mathlib.Core.Path.{sym, ◌∙◌}
 use Rattle.rules.specs.Names.{spot}
-use Rattle.faults.specs.Refused.{number_in}
+use Rattle.faults.proofs.Refusing.{passed_on}
 use Rattle.faults.proofs.Tested.{forbid_unknown, forbid_known}
 use Rattle.faults.proofs.names.fault_of.Goals as goal
 
-pub returns-then-number-ne0 : goal.returns-then-number-ne0
-returns-then-number-ne0 c =
+pub returns-in_err-unknown-in-Forbid : goal.returns-in_err-unknown-in-Forbid
+returns-in_err-unknown-in-Forbid c =
     let a = c.args in
     λ p q columns before w few b e run.
     rw c.in-Forbid.is
-    (forbid_unknown columns before (spot a.text.now a.at p) (c.unknown-number.ensures p q columns before w few run) c.if-number-ne0.true)
+    (passed_on c.from_residual.result _ c.from_residual.ensures.1
+    (forbid_unknown a.at columns before (spot a.text.now a.at p) (c.in_err-unknown-in-Forbid.ensures p q columns before w few run)))
+
+pub returns-in_ok-unknown-in-Forbid : goal.returns-in_ok-unknown-in-Forbid
+returns-in_ok-unknown-in-Forbid c =
+    let a = c.args in
+    λ p q columns before w few b e run.
+    rw c.in-Forbid.is
+    (forbid_known a.at columns before (spot a.text.now a.at p) (c.in_ok-unknown-in-Forbid.ensures p q columns before w few run)
+    (c.repeated-in-Forbid.ensures p before b e run))
 
 pub returns-in-Columns : goal.returns-in-Columns
 returns-in-Columns c = λ p q columns before w few b e run. rw c.in-Columns.is (c.repeated.ensures p before b e run)
 
 pub returns-in-Need : goal.returns-in-Need
 returns-in-Need c = λ p q columns before w few b e run. rw c.in-Need.is (c.unknown.ensures p q columns before w few run)
-
-pub returns-else-number-ne0 : goal.returns-else-number-ne0
-returns-else-number-ne0 c =
-    let a = c.args in
-    λ p q columns before w few b e run.
-    rw c.in-Forbid.is
-    (c.repeated-in-Forbid.ensures p before b e run
-    ∙ sym (forbid_known columns before (spot a.text.now a.at p) (c.unknown-number.ensures p q columns before w few run) c.if-number-ne0.false))
-
-pub returns-in-End : goal.returns-in-End
-unfolding number_in
-returns-in-End c = λ p q columns before w few b e run. rw c.in-End.is

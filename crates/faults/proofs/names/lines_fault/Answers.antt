@@ -1,37 +1,57 @@
--- `faults::names::lines_fault` meets its contract. The invariant: no name of a line before the loop's place is at fault. Assumes nothing.
-use mathlib.Core.Path.{sym, ◌∙◌}
+-- `faults::names::lines_fault` meets its contract. Assumes nothing.
+use mathlib.Core.Path.{refl, sym, ap, ◌∙◌}
+use native.Mathlib.Omega.{arith}
+use lib.ListN.{length}
 use Rattle.rules.specs.Texts.{line}
+use Rattle.naming.proofs.KeyPlaces.{width_bounds}
 use Rattle.faults.specs.Kinds.{fault_by}
-use Rattle.faults.proofs.Left.{row_here, row_next, row_end}
+use Rattle.faults.proofs.Left.{rows_start, row_here, row_next, row_end}
+use Rattle.faults.proofs.Refusing.{passed_on}
 use Rattle.faults.proofs.Tested.{line_faulty, line_right, no_line_faulty}
 use Rattle.faults.proofs.names.lines_fault.Goals as goal
 
-pub returns-then-fault-ne0 : goal.returns-then-fault-ne0
-returns-then-fault-ne0 c =
-    let a = c.args in
-    let here = c.key_stands.ensures.there c.loop-section-test.true in
-    let l = c.loop-section in
-    λ q to columns rows k few r.
-    let h = row_here (l.invariant q to columns rows k few r) here in
-    line_faulty (fault_by a.section columns) c.line_fault-fault.result (line l.place h.1) h.2
-    (c.line_fault-fault.ensures q h.0 columns h.1 k few (rw c.width-before.ensures h.3)) c.if-fault-ne0.true
-    ∙ sym h.4
+pub loop-place-init : goal.loop-place-init
+loop-place-init c =
+    let begun = c.into_iter-place-iterator.ensures.into_iter_gives in
+    record {
+      goes = tt;
+      ends = tt;
+      text = ap (λ w. w.text.now) begun ∙ c.new-place-items.ensures.text;
+      left = λ q to columns rows k few r. rw begun (rows_start c.new-place-items.ensures r refl);
+    }
 
-pub loop-section-preserved : goal.loop-section-preserved
-loop-section-preserved c =
+pub overflow_add-place : goal.overflow_add-place
+overflow_add-place c =
+    let step = c.in-Some.ensures.steps in
+    omega (arith, step.inside, step.here, ap length c.loop-place.invariant.text, c.width-before.ensures, (width_bounds c.args.section).1)
+
+pub returns-in_err-line_fault : goal.returns-in_err-line_fault
+returns-in_err-line_fault c =
     let a = c.args in
-    let here = c.key_stands.ensures.there c.loop-section-test.true in
-    let l = c.loop-section in
+    let step = c.in-Some.ensures.steps in
     λ q to columns rows k few r.
-    row_next (l.invariant q to columns rows k few r) here c.next_line-place.ensures.is
-    (λ end names later w e.
-    e ∙ line_right (fault_by a.section columns) c.line_fault-fault.result (line l.place names) later
-    (c.line_fault-fault.ensures q end columns names k few (rw c.width-before.ensures w)) c.if-fault-ne0.false)
+    let h = row_here (c.loop-place.invariant.left q to columns rows k few r) step in
+    passed_on c.from_residual.result _ c.from_residual.ensures.1
+    (line_faulty (fault_by a.section columns) (line c.in-Some.place h.1) h.2
+    (c.in_err-line_fault.ensures q h.0 columns h.1 k few (rw c.width-before.ensures h.3))
+    ∙ sym h.4)
+
+pub loop-place-preserved : goal.loop-place-preserved
+loop-place-preserved c =
+    let a = c.args in
+    let step = c.in-Some.ensures.steps in
+    record {
+      goes = tt;
+      ends = tt;
+      text = step.text ∙ c.loop-place.invariant.text;
+      left = λ q to columns rows k few r.
+          row_next (c.loop-place.invariant.left q to columns rows k few r) step
+          (λ end names later w e.
+          e ∙ line_right (fault_by a.section columns) (line c.in-Some.place names) later
+          (c.in_ok-line_fault.ensures q end columns names k few (rw c.width-before.ensures w)));
+    }
 
 pub returns : goal.returns
 returns c =
-    let a = c.args in
-    let l = c.loop-section in
-    let other = c.key_stands.ensures.missing c.loop-section-test.false in
     λ q to columns rows k few r.
-    c.no_fault.ensures ∙ sym ((row_end (l.invariant q to columns rows k few r) other).1 ∙ no_line_faulty (fault_by a.section columns))
+    sym ((row_end (c.loop-place.invariant.left q to columns rows k few r) c.in-None.ensures.steps).1 ∙ no_line_faulty (fault_by c.args.section columns))

@@ -1,22 +1,40 @@
--- `faults::sections::walk` meets its contract. The invariant: the lines counted and those left are all of them. Assumes nothing.
+-- `faults::sections::walk` meets its contract. Assumes nothing.
+use mathlib.Core.Path.{ap, ◌∙◌}
 use native.Mathlib.Omega.{arith}
-use Rattle.naming.proofs.KeyPlaces.{key_inside}
-use Rattle.faults.proofs.Left.{row_next, row_end}
+use lib.ListN.{length}
+use Rattle.faults.proofs.Left.{rows_start, row_next, row_end, asked_some, asked_none}
 use Rattle.faults.proofs.sections.walk.Goals as goal
 
-pub loop-section-preserved : goal.loop-section-preserved
-loop-section-preserved c =
-    let a = c.args in
-    let here = c.key_stands.ensures.there c.loop-section-test.true in
-    let h = key_inside a.section here in
-    let l = c.loop-section in (
-      omega (arith, l.invariant.0, c.next_line-place.ensures.later),
-      omega (arith, l.invariant.0),
-      λ q rows r. row_next (l.invariant.2 q rows r) here c.next_line-place.ensures.is (λ to names later w e. omega (arith, e)),
-    )
+pub loop-lines-init : goal.loop-lines-init
+loop-lines-init c = record {
+  text = c.new-walk.ensures.text;
+  few = (omega arith, omega arith);
+  left = λ q rows r. rows_start c.new-walk.ensures r (omega arith);
+}
+
+pub overflow_add-lines : goal.overflow_add-lines
+overflow_add-lines c = omega (arith, c.loop-lines.invariant.few)
+
+pub loop-lines-smaller : goal.loop-lines-smaller
+loop-lines-smaller c =
+    let step = (asked_some c.next.result c.loop-lines-test.ensures c.next.ensures.steps).1 in
+    omega (arith, step.inside, step.later, ap length c.loop-lines.invariant.text)
+
+pub loop-lines-preserved : goal.loop-lines-preserved
+loop-lines-preserved c =
+    let l = c.loop-lines in
+    let step = (asked_some c.next.result c.loop-lines-test.ensures c.next.ensures.steps).1 in
+    record {
+      text = step.text ∙ l.invariant.text;
+      few = (omega (arith, l.invariant.few, step.later), omega (arith, l.invariant.few, step.inside, ap length l.invariant.text));
+      left = λ q rows r. row_next (l.invariant.left q rows r) step (λ to names later w e. omega (arith, e));
+    }
+
+pub returns-clause-few : goal.returns-clause-few
+returns-clause-few c = c.loop-lines.invariant.few.1
 
 pub returns-clause-is : goal.returns-clause-is
 returns-clause-is c =
-    let l = c.loop-section in
-    let other = c.key_stands.ensures.missing c.loop-section-test.false in
-    λ q rows r. let end = row_end (l.invariant.2 q rows r) other in record { lines = omega (arith, end.1); to = end.0 }
+    let none = asked_none c.next.result c.loop-lines-test.ensures c.next.ensures.steps in
+    λ q rows r. let end = row_end (c.loop-lines.invariant.left q rows r) none in
+    record { lines = omega (arith, end.1); to = ap (λ w. w.place) none.1 ∙ end.0 }

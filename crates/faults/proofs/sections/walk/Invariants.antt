@@ -10,10 +10,14 @@ use Rattle.naming.specs.Sections.{key_of}
 use Rattle.faults.proofs.Left.{RowsLeft}
 use Rattle.faults.proofs.sections.walk.Given as goal
 
-abbrev pub invariant-loop-section : goal.invariant-loop-section
-invariant-loop-section l = (l.lines ≤ l.place) × (l.lines ≤ length l.text)
-    × ((q : ℕ) (rows : List (Line (List Spot))) → Rows l.text (key_of l.section) l.from q rows
-    → RowsLeft l.text (key_of l.section) l.place q (λ later. l.lines + length later ≡ length rows))
+abbrev pub invariant-loop-lines : goal.invariant-loop-lines
+invariant-loop-lines l =
+    record {
+      text : l.walk.text.now ≡ l.text;
+      few : (l.lines ≤ l.walk.place) × (l.lines ≤ length l.text);
+      left : (q : ℕ) (rows : List (Line (List Spot))) → Rows l.text (key_of l.fn.section) l.from q rows
+          → RowsLeft l.text l.fn.section l.walk q (λ later. l.lines + length later ≡ length rows);
+    }
 
-abbrev pub decreases-loop-section : goal.decreases-loop-section
-decreases-loop-section l = length l.text - l.place
+abbrev pub decreases-loop-lines : goal.decreases-loop-lines
+decreases-loop-lines l = length l.text - l.walk.place
