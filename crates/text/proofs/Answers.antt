@@ -1,8 +1,9 @@
 -- What the parts read from a text come to, and the ways in which the call ends. Assumes nothing.
-use mathlib.Core.Path.{◌≡◌, sym, ap, ◌∙◌}
+use mathlib.Core.Path.{◌≡◌, refl, sym, ap, ◌∙◌}
 use mathlib.Core.Bool.{false}
 use mathlib.Core.List.{List, []}
-use Rattle.rules.specs.Options.{None}
+use Rattle.std.specs.Prelude.{Ok, Err}
+use Rattle.rules.proofs.Options.{None, Some, some-injective}
 use Prim.Native.Nat.{ℕ, ◌≤◌, ◌<◌}
 use native.Mathlib.Omega.{arith}
 use lib.ListN.{length, take}
@@ -13,28 +14,27 @@ use Rattle.rules.specs.Signs.{forbid_key}
 use Rattle.rules.specs.Names.{Spot}
 use Rattle.rules.specs.Phrases.{Formula}
 use Rattle.rules.specs.Texts.{Line, Sheet, OfForm, StopsAt}
-use Rattle.rules.specs.Sheets.{refusal, sheet_fault, marks_of, numbers_of, names_of}
+use Rattle.rules.specs.Sheets.{sheet_fault, marks_of, numbers_of, names_of}
 use Rattle.rules.specs.Readings.{most_bytes, refused, reading_of, too_long, not_of_form, of_form}
 use Rattle.rules.proofs.MarkedNeeds.{length_lines}
 use Rattle.rules.proofs.Sheets.{counts, sheet_fit}
 use Rattle.rules.proofs.Readings.{reading_taken, reading_refused}
-use Rattle.job.specs.declared.Loaded.{Loaded}
+use Rattle.job.specs.declared.Job.{Job}
+use Rattle.job.specs.Refusals.{refusal_at}
 use Rattle.job.specs.Records.{job_with, loaded}
 use Rattle.naming.specs.Words.{Words, Rows, columns_from}
 use Rattle.naming.proofs.Laid.{laid_columns}
-use Rattle.faults.specs.declared.fault.Fault.{Fault}
+use Rattle.job.specs.declared.refusals.Fault.{Fault}
 use Rattle.faults.specs.declared.sections.Places.{Places}
-use Rattle.faults.specs.Refused.{refusal_in}
 use Rattle.faults.specs.Kinds.{Sectioned}
-use Rattle.faults.proofs.Refusing.{a_refusal}
 use Rattle.faults.proofs.Parts.{forbid_rows}
 use Rattle.text.specs.declared.table.Table.{Table}
 use Rattle.text.specs.Tables.{Tabled}
 use Rattle.text.specs.Built.{SetsWritten, NeedLines, Markable, MarksWritten}
 use Rattle.text.specs.declared.JobRead.{JobRead}
-use Rattle.text.specs.Promises.{read_of, Takes}
+use Rattle.text.specs.Promises.{read_of, Takes, in_numbers}
 
-loaded_job : (q : Numbers) → unfit q ≡ false → (loaded q).job ≡ job_with q
+loaded_job : (q : Numbers) → unfit q ≡ false → loaded q ≡ Some (job_with q)
 unfolding loaded
 loaded_job q e = rw e
 
@@ -79,40 +79,45 @@ module _ {s : List ℕ} {sheet : Sheet} (form : OfForm s sheet) (right : sheet_f
   unfolding numbers_of
   numbers_read counted written laid-marks = rw (counted, written.sets, laid-marks.marks form.columns_to sheet.columns (laid_columns form) few)
 
-  -- and with the names they are the answer
-  pub read_whole : {table : Table} {sets marks : List ℕ} {many marked : ℕ}
-      → ((q : ℕ) (columns : List Spot) → Words s columns_from q columns → length columns ≤ most_columns → Tabled columns table)
-      → SetsWritten sheet.columns sheet.forbids many sets → MarksWritten s sheet.needs marked marks → (l : Loaded)
-      → l ≡ loaded (record { columns = table.columns; forbidden = take many sets; marks = take marked marks })
-      → record { refusal = 0; place = 0; job = l.job; names = table.names } ≡ read_of (reading_of sheet)
-  unfolding names_of
-  read_whole all written laid-marks l e =
-      let tabled = all _ sheet.columns (laid_columns form) few in
-      let same = numbers_read tabled.many written laid-marks in
-      let job : l.job ≡ job_with (numbers_of sheet)
-      = ap (λ (k : Loaded). k.job) e ∙ ap (λ (q : Numbers). (loaded q).job) same ∙ loaded_job (numbers_of sheet) (sheet_fit s sheet form right) in
-      rw (reading_taken sheet right, job, tabled.names)
+  module _ {table : Table} {sets marks : List ℕ} {many marked : ℕ}
+      (all : (q : ℕ) (columns : List Spot) → Words s columns_from q columns → length columns ≤ most_columns → Tabled columns table)
+      (written : SetsWritten sheet.columns sheet.forbids many sets) (laid-marks : MarksWritten s sheet.needs marked marks) where
+    -- they are fit
+    pub numbers_loaded : loaded (record { columns = table.columns; forbidden = take many sets; marks = take marked marks }) ≡ Some (job_with (numbers_of sheet))
+    numbers_loaded =
+        let tabled = all _ sheet.columns (laid_columns form) few in
+        ap loaded (numbers_read tabled.many written laid-marks) ∙ loaded_job (numbers_of sheet) (sheet_fit s sheet form right)
+
+    -- and with the names they are the answer
+    pub read_whole : {job : Job} → loaded (record { columns = table.columns; forbidden = take many sets; marks = take marked marks }) ≡ Some job
+        → in_numbers (Ok (record { job = job; names = table.names })) ≡ read_of (reading_of sheet)
+    unfolding names_of
+    read_whole {job} e =
+        let tabled = all _ sheet.columns (laid_columns form) few in
+        let same : job ≡ job_with (numbers_of sheet) = some-injective job (job_with (numbers_of sheet)) (sym e ∙ numbers_loaded) in
+        rw (reading_taken sheet right, same, tabled.names)
 
 -- ---- the ways of the call
 
 -- a text over 8,192 bytes
-pub too_long_takes : {s : List ℕ} {r : JobRead} → most_bytes < length s → r ≡ read_of (refused text_too_long most_bytes) → Takes s r
-too_long_takes h e = record { reading = refused text_too_long most_bytes; reads = too_long h; answered = e }
+pub too_long_takes : {s : List ℕ} → most_bytes < length s → Takes s (read_of (refused text_too_long most_bytes))
+too_long_takes h = record { reading = refused text_too_long most_bytes; reads = too_long h; answered = refl }
 
 -- a text not of the form
-pub stops_takes : {s : List ℕ} {r : JobRead} {p : ℕ} → length s ≤ most_bytes → StopsAt s p → r ≡ read_of (refused text_not_of_form p) → Takes s r
-stops_takes {p} h stops e = record { reading = refused text_not_of_form p; reads = not_of_form h stops; answered = e }
+pub stops_takes : {s : List ℕ} {p : ℕ} → length s ≤ most_bytes → StopsAt s p → Takes s (read_of (refused text_not_of_form p))
+stops_takes {p} h stops = record { reading = refused text_not_of_form p; reads = not_of_form h stops; answered = refl }
 
 -- a text with a fault
-pub fault_takes : {s : List ℕ} {r : JobRead} (sheet : Sheet) (f : Fault) → length s ≤ most_bytes → OfForm s sheet → refusal_in f ≡ sheet_fault sheet
-    → (f.number ≡ 0 → ⊥) → r ≡ read_of (refused f.number f.place) → Takes s r
-fault_takes sheet f h form is n e =
+pub fault_takes : {s : List ℕ} (sheet : Sheet) (f : Fault) → length s ≤ most_bytes → OfForm s sheet → Some (refusal_at f) ≡ sheet_fault sheet
+    → Takes s (in_numbers (Err f))
+fault_takes sheet f h form is =
     record {
       reading = reading_of sheet;
       reads = of_form sheet h form;
-      answered = e ∙ ap read_of (sym (reading_refused sheet (refusal f.number f.place) (sym is ∙ a_refusal f n)));
+      answered = ap read_of (sym (reading_refused sheet (refusal_at f) (sym is)));
     }
 
 -- a text without one
-pub right_takes : {s : List ℕ} {r : JobRead} (sheet : Sheet) → length s ≤ most_bytes → OfForm s sheet → r ≡ read_of (reading_of sheet) → Takes s r
-right_takes sheet h form e = record { reading = reading_of sheet; reads = of_form sheet h form; answered = e }
+pub right_takes : {s : List ℕ} (sheet : Sheet) (read : JobRead) → length s ≤ most_bytes → OfForm s sheet → in_numbers (Ok read) ≡ read_of (reading_of sheet)
+    → Takes s (in_numbers (Ok read))
+right_takes sheet read h form e = record { reading = reading_of sheet; reads = of_form sheet h form; answered = e }

@@ -1,9 +1,10 @@
 -- What the promise of the call says: that each text has one answer, which refusal comes when and at which place, and what a text without a fault
 -- gives. Assumes nothing.
-use mathlib.Core.Path.{◌≡◌, sym, ap, ◌∙◌}
+use mathlib.Core.Path.{◌≡◌, refl, sym, ap, ◌∙◌}
 use mathlib.Core.Bool.{false}
 use mathlib.Core.List.{List, []}
 use mathlib.Core.Logic.{◌⊎◌, inl, inr, ◌↔◌}
+use Rattle.std.specs.Prelude.{cond, eqb, Result, Ok, Err}
 use Rattle.rules.specs.Options.{None, Some}
 use Prim.Native.Nat.{ℕ, ◌≤◌, ◌<◌}
 use native.Mathlib.Decide.{dec_lt}
@@ -21,9 +22,13 @@ use Rattle.rules.proofs.Readings.{one_reading, reading_taken, refused_numbers, A
 use Rattle.job.specs.Records.{numbers_in, no_job}
 use Rattle.job.proofs.Records.{fit_numbers}
 use Rattle.form.proofs.Decided.{decided}
+use Rattle.job.specs.declared.refusals.Refusal.{Refusal as Kind}
+use Rattle.job.specs.declared.refusals.Refusal.TheVariants.{TextTooLong, TextNotOfForm, TooMany, NameTwice, NameUnknown, EndNumberOther}
+use Rattle.job.specs.declared.refusals.Refusal.TheVariants.{NumbersUnfit, SliceTooShort, NoCorrectSplit}
+use Rattle.job.specs.declared.refusals.Fault.{Fault}
 use Rattle.text.specs.declared.JobRead.{JobRead}
 use Rattle.text.specs.Tables.{name_table}
-use Rattle.text.specs.Promises.{read_of, Takes}
+use Rattle.text.specs.Promises.{Answer, read_of, Takes, in_numbers}
 
 -- every text has a reading; that it is the only one is a law of the rules
 pub some_reading : (s : List ℕ) → (w : Reading) × Reads s w
@@ -35,12 +40,12 @@ some_reading s = go (dec_lt most_bytes (length s)) (decided s)
     go (no n) (inr (p, stops)) = (refused text_not_of_form p, not_of_form (omega arith) stops)
 
 -- two answers that the promise allows are equal
-pub one_answer : {s : List ℕ} {r t : JobRead} → Takes s r → Takes s t → r ≡ t
+pub one_answer : {s : List ℕ} {r t : Answer} → Takes s r → Takes s t → r ≡ t
 one_answer a b = a.answered ∙ ap read_of (one_reading a.reads b.reads) ∙ sym b.answered
 
 -- a text that was read: what it says, and that this is of the form and without a fault; the numbers of the answer's job are the text's, they are
 -- fit, and they stand for the job that the text says; the names are those of its columns
-pub record Taken (s : List ℕ) (r : JobRead) : Type 0 where
+pub record Taken (s : List ℕ) (r : Answer) : Type 0 where
   pub sheet : Sheet
   pub form : OfForm s sheet
   pub right : IsRight sheet
@@ -53,7 +58,7 @@ pub record Taken (s : List ℕ) (r : JobRead) : Type 0 where
 through : {A B C : Type 0} → A ↔ B → B ↔ C → A ↔ C
 through f g = (λ x. g.0 (f.0 x), λ x. f.1 (g.1 x))
 
-module _ {s : List ℕ} {r : JobRead} (a : Takes s r) where
+module _ {s : List ℕ} {r : Answer} (a : Takes s r) where
   answer_as : {w : Reading} → Reads s w → r ≡ read_of w
   answer_as b = a.answered ∙ ap read_of (one_reading a.reads b)
 
@@ -62,13 +67,13 @@ module _ {s : List ℕ} {r : JobRead} (a : Takes s r) where
     where
       go : (w : Reading) → Reads s w → r ≡ read_of w → Reads s (refused r.refusal r.place)
       go (refused number place) b e = rw e b
-      go (taken q names) b e = absurd (n (ap (λ (t : JobRead). t.refusal) e))
+      go (taken q names) b e = absurd (n (ap (λ (t : Answer). t.refusal) e))
 
   -- "A refused text returns the number, the place and a job with no columns, sets or marks", and no names
   pub refused_empty : (r.refusal ≡ 0 → ⊥) → (r.job ≡ no_job) × (r.names ≡ name_table [])
   refused_empty n =
       let e = answer_as (reading_as n) in
-      (ap (λ (t : JobRead). t.job) e, ap (λ (t : JobRead). t.names) e)
+      (ap (λ (t : Answer). t.job) e, ap (λ (t : Answer). t.names) e)
 
   -- this number at this place
   abbrev pub Refuses : ℕ → ℕ → Type 0
@@ -81,7 +86,7 @@ module _ {s : List ℕ} {r : JobRead} (a : Takes s r) where
       to e = rw (← e.0, ← e.1) (reading_as (λ z. n (sym e.0 ∙ z)))
 
       from : Reads s (refused number p) → Refuses number p
-      from b = let e = answer_as b in (ap (λ (t : JobRead). t.refusal) e, ap (λ (t : JobRead). t.place) e)
+      from b = let e = answer_as b in (ap (λ (t : Answer). t.refusal) e, ap (λ (t : Answer). t.place) e)
 
   -- 1 exactly if the text is over 8,192 bytes, and then at 8192
   pub long_refused : (p : ℕ) → Refuses text_too_long p ↔ ((most_bytes < length s) × (p ≡ most_bytes))
@@ -100,14 +105,14 @@ module _ {s : List ℕ} {r : JobRead} (a : Takes s r) where
   refusal_numbers = go a.reading a.reads a.answered
     where
       go : (w : Reading) → Reads s w → r ≡ read_of w → r.refusal < 7
-      go (refused number p) b e = let n = refused_numbers b in omega (arith, ap (λ (t : JobRead). t.refusal) e)
-      go (taken q names) b e = omega (arith, ap (λ (t : JobRead). t.refusal) e)
+      go (refused number p) b e = let n = refused_numbers b in omega (arith, ap (λ (t : Answer). t.refusal) e)
+      go (taken q names) b e = omega (arith, ap (λ (t : Answer). t.refusal) e)
 
   accepted : r.refusal ≡ 0 → (q : Numbers) × (names : List (List ℕ)) × Accepted s q names
   accepted z = go a.reading a.reads a.answered
     where
       go : (w : Reading) → Reads s w → r ≡ read_of w → (q : Numbers) × (names : List (List ℕ)) × Accepted s q names
-      go (refused number p) b e = let n = refused_numbers b in absurd (omega (arith, ap (λ (t : JobRead). t.refusal) e, z))
+      go (refused number p) b e = let n = refused_numbers b in absurd (omega (arith, ap (λ (t : Answer). t.refusal) e, z))
       go (taken q names) b e = (q, names, (taken_exactly s q names).0 b)
 
   answer_of_lem : (sheet : Sheet) → length s ≤ most_bytes → OfForm s sheet → sheet_fault sheet ≡ None → r ≡ read_of (taken (numbers_of sheet) (names_of sheet))
@@ -122,7 +127,7 @@ module _ {s : List ℕ} {r : JobRead} (a : Takes s r) where
       to z = let k = (accepted z).2 in (k.sheet, k.short, k.form, k.right)
 
       from : (sheet : Sheet) × (length s ≤ most_bytes) × OfForm s sheet × IsRight sheet → r.refusal ≡ 0
-      from h = ap (λ (t : JobRead). t.refusal) (answer_of_lem h.0 h.1 h.2 ((right_exactly h.0 h.2).1 h.3))
+      from h = ap (λ (t : Answer). t.refusal) (answer_of_lem h.0 h.1 h.2 ((right_exactly h.0 h.2).1 h.3))
 
   -- and then the answer is what it says
   pub is_taken : r.refusal ≡ 0 → Taken s r
@@ -131,14 +136,51 @@ module _ {s : List ℕ} {r : JobRead} (a : Takes s r) where
       let None : sheet_fault k.sheet ≡ None = (right_exactly k.sheet k.form).1 k.right in
       let e = answer_of_lem k.sheet k.short k.form None in
       let fit : unfit (numbers_of k.sheet) ≡ false = sheet_fit s k.sheet k.form None in
-      let held : numbers_in r.job ≡ numbers_of k.sheet = ap (λ (t : JobRead). numbers_in t.job) e ∙ fit_numbers (numbers_of k.sheet) fit in
+      let held : numbers_in r.job ≡ numbers_of k.sheet = ap (λ (t : Answer). numbers_in t.job) e ∙ fit_numbers (numbers_of k.sheet) fit in
       record {
         sheet = k.sheet;
         form = k.form;
         right = k.right;
-        place = ap (λ (t : JobRead). t.place) e;
+        place = ap (λ (t : Answer). t.place) e;
         numbers = held;
         fit = rw held fit;
         job = rw held (sheet_job s k.sheet k.form None);
-        names = ap (λ (t : JobRead). t.names) e;
+        names = ap (λ (t : Answer). t.names) e;
       }
+
+-- ---- answers in numbers
+
+-- the refusal that has the number
+named : ℕ → Kind
+named number =
+    cond (eqb number 1) TextTooLong (cond (eqb number 2) TextNotOfForm (cond (eqb number 3) TooMany (cond (eqb number 4) NameTwice
+    (cond (eqb number 5) NameUnknown (cond (eqb number 6) EndNumberOther (cond (eqb number 7) NumbersUnfit
+    (cond (eqb number 8) SliceTooShort NoCorrectSplit)))))))
+
+-- the answer that has these numbers
+answer_named : Answer → Result JobRead Fault
+answer_named a = cond (eqb a.refusal 0) (Ok (record { job = a.job; names = a.names })) (Err (record { refusal = named a.refusal; place = a.place }))
+
+numbers_kept : (r : Result JobRead Fault) → answer_named (in_numbers r) ≡ r
+unfolding answer_named named
+numbers_kept (Ok read) = refl
+numbers_kept (Err fault) = go fault.refusal
+  where
+    go : (k : Kind) → answer_named (in_numbers (Err (record { refusal = k; place = fault.place }))) ≡ Err (record { refusal = k; place = fault.place })
+    go TextTooLong = refl
+    go TextNotOfForm = refl
+    go TooMany = refl
+    go NameTwice = refl
+    go NameUnknown = refl
+    go EndNumberOther = refl
+    go NumbersUnfit = refl
+    go SliceTooShort = refl
+    go NoCorrectSplit = refl
+
+-- no two answers have the same numbers
+pub in_numbers-injective : (r t : Result JobRead Fault) → in_numbers r ≡ in_numbers t → r ≡ t
+in_numbers-injective r t e = sym (numbers_kept r) ∙ ap answer_named e ∙ numbers_kept t
+
+-- so a text has one answer
+pub one_result : {s : List ℕ} (r t : Result JobRead Fault) → Takes s (in_numbers r) → Takes s (in_numbers t) → r ≡ t
+one_result r t a b = in_numbers-injective r t (one_answer a b)

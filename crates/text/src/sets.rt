@@ -9,10 +9,9 @@ ghost use Rattle.naming.specs.Words.{Words, Rows, columns_from};
 ghost use Rattle.text.specs.Built.{SetsWritten};
 
 use columns::ColumnSet;
+use faults::walks::{Lines, Names};
 use naming::known::column_in;
-use naming::sections::{Section, key_stands, next_line, width};
-use naming::signs::{byte, in_name};
-use naming::words::{name_end, next_name};
+use naming::sections::{Section, width};
 
 // The columns that a line names from a place on.
 fn set_of(text: &[u8], from: usize) -> u16
@@ -20,12 +19,10 @@ fn set_of(text: &[u8], from: usize) -> u16
         → Words text.now from to names → result ≡ set_with columns empty names }
 {
     let mut set = ColumnSet::EMPTY;
-    let mut place = next_name(text, from);
-    while in_name(byte(text, place)) {
+    for place in Names::new(text, from) {
         set = set.union(ColumnSet {
             bits: 1u16 << column_in(text, place),
         });
-        place = next_name(text, name_end(text, place));
     }
     set.bits
 }
@@ -37,15 +34,12 @@ pub fn forbidden_sets(text: &[u8], from: usize, sets: &mut [u16]) -> usize
         → SetsWritten columns rows result sets.new }
 {
     let before = width(Section::Forbid);
-    let mut count: usize = 0;
-    let mut place = from;
-    while count < sets.len() {
-        if !key_stands(text, Section::Forbid, place) {
+    let mut lines = Lines::new(text, Section::Forbid, from);
+    for (count, set) in sets.iter_mut().enumerate() {
+        let Some(place) = lines.next() else {
             return count;
-        }
-        sets[count] = set_of(text, place + before);
-        count += 1;
-        place = next_line(text, Section::Forbid, place);
+        };
+        *set = set_of(text, place + before);
     }
-    count
+    sets.len()
 }

@@ -8,9 +8,12 @@ ghost use Rattle.naming.specs.Words.{Words, columns_from};
 ghost use Rattle.text.specs.Tables.{Tabled};
 
 use columns::ColumnSet;
+use faults::walks::Names;
 use naming::known::COLUMNS_FROM;
 use naming::signs::{byte, in_name};
-use naming::words::{MOST_NAME_BYTES, name_end, next_name};
+use naming::words::MOST_NAME_BYTES;
+
+const MOST_COLUMNS: usize = ColumnSet::MOST_COLUMNS as usize;
 
 // The names of 16 columns.
 pub const NAMES: usize = 192;
@@ -28,14 +31,12 @@ fn put_name(names: &mut [u8], from: usize, text: &[u8], at: usize)
     ensures { (p : ℕ) → Run text.now at p → p ≤ at + most_name_bytes
         → names.new ≡ take from names.old ++ written (piece text.now at p) (drop from names.old) }
 {
-    let mut i = 0;
-    while i < MOST_NAME_BYTES {
+    for i in 0..MOST_NAME_BYTES {
         let sign = byte(text, at + i);
         if !in_name(sign) {
             return;
         }
         names[from + i] = sign;
-        i += 1;
     }
 }
 
@@ -45,15 +46,15 @@ pub fn name_table(text: &[u8]) -> Table
         → Tabled columns result }
 {
     let mut names = [0u8; NAMES];
-    let mut columns: usize = 0;
-    let mut place = next_name(text, COLUMNS_FROM);
-    while columns < ColumnSet::MOST_COLUMNS as usize {
-        if !in_name(byte(text, place)) {
+    let mut places = Names::new(text, COLUMNS_FROM);
+    for columns in 0..MOST_COLUMNS {
+        let Some(place) = places.next() else {
             return Table { columns, names };
-        }
+        };
         put_name(&mut names, MOST_NAME_BYTES * columns, text, place);
-        columns += 1;
-        place = next_name(text, name_end(text, place));
     }
-    Table { columns, names }
+    Table {
+        columns: MOST_COLUMNS,
+        names,
+    }
 }

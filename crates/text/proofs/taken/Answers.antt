@@ -1,8 +1,8 @@
 -- `text::taken` meets its contract. Assumes nothing.
-use mathlib.Core.Path.{sym}
+use mathlib.Core.Path.{sym, ◌∙◌}
 use native.Mathlib.Omega.{arith}
 use lib.Seq.{length-take-le}
-use Rattle.text.proofs.Answers.{markable, sets_read, sets_few, marks_read, marks_few, read_whole}
+use Rattle.text.proofs.Answers.{markable, sets_read, sets_few, marks_read, marks_few, numbers_loaded, read_whole}
 use Rattle.text.proofs.taken.Goals as goal
 
 pub need_marks-marked-requires : goal.need_marks-marked-requires
@@ -32,11 +32,18 @@ slice_bounds-load-end-2 c =
     let marks = marks_read c.requires.1 c.requires.2 places c.need_marks-marked.ensures in
     sym (length-take-le _ _ (omega (arith, marks_few c.requires.1 c.requires.2 places marks, c.need_marks-marked.auto.marks)))
 
+pub unwrap-job-requires : goal.unwrap-job-requires
+unwrap-job-requires c =
+    let form = c.requires.1 in
+    let places = c.sections-places.ensures c.requires.0 form in
+    let sets = sets_read form c.requires.2 places c.forbidden_sets-count.ensures in
+    let marks = marks_read form c.requires.2 places c.need_marks-marked.ensures in
+    rw (c.load-loaded.ensures ∙ numbers_loaded form c.requires.2 c.name_table-table.ensures sets marks)
+
 pub returns : goal.returns
 returns c =
-    let load = c.load-loaded in
     λ sheet form right.
     let places = c.sections-places.ensures sheet form in
     let sets = sets_read form right places c.forbidden_sets-count.ensures in
     let marks = marks_read form right places c.need_marks-marked.ensures in
-    read_whole form right c.name_table-table.ensures sets marks load.result load.ensures
+    read_whole form right c.name_table-table.ensures sets marks (sym c.load-loaded.ensures ∙ c.unwrap-job.ensures)

@@ -1,31 +1,42 @@
 -- `text::sets::forbidden_sets` meets its contract. Assumes nothing.
-use mathlib.Core.Path.{◌∙◌}
+use mathlib.Core.Path.{◌≡◌, ap, ◌∙◌}
 use native.Mathlib.Omega.{arith}
-use lib.ListN.{length-set}
-use Rattle.text.proofs.SetLines.{sets_more, sets_end, sets_full}
+use lib.ListN.{length}
+use Rattle.std.proofs.lemmas.List.{set-get_or}
+use Rattle.text.proofs.SetLines.{sets_none, sets_more, sets_end, sets_full}
 use Rattle.text.proofs.sets.forbidden_sets.Goals as goal
 
-pub returns-then-not-key_stands : goal.returns-then-not-key_stands
-returns-then-not-key_stands c =
-    let other = c.key_stands.ensures.missing c.if-not-key_stands.true in
-    λ q to columns rows known few are room. sets_end (c.loop-count.invariant.2 q to columns rows known few are) other
+pub loop-count-init : goal.loop-count-init
+loop-count-init c = record {
+  text = c.new-lines.ensures.text;
+  left = λ q to columns rows known few are. sets_none c.args.sets.now c.new-lines.ensures are;
+}
+
+pub overflow_add-place : goal.overflow_add-place
+overflow_add-place c =
+    let step = c.in-Some.ensures.steps in
+    omega (arith, step.inside, step.here, ap length c.loop-count.invariant.text, c.width-before.ensures)
+
+pub returns-in_default : goal.returns-in_default
+returns-in_default c =
+    let l = c.loop-count in
+    λ q to columns rows known few are room.
+    rw (set-get_or l.sets l.count 0) (sets_end (l.invariant.left q to columns rows known few are) c.in_default.ensures.steps)
 
 pub loop-count-preserved : goal.loop-count-preserved
 loop-count-preserved c =
     let l = c.loop-count in
-    let room = c.loop-count-test.true in
-    let here = c.key_stands.ensures.there c.if-not-key_stands.false in
-    let set = c.set_of in
-    let long = length-set l.sets l.count set.result in (
-      omega (arith, room, long),
-      long ∙ l.invariant.1,
-      λ q to columns rows known few are.
-          sets_more (l.invariant.2 q to columns rows known few are) here room c.next_line-place.ensures.is
-          (λ r names w. set.ensures q r columns names known few (rw c.width-before.ensures w)),
-    )
+    let step = c.in-Some.ensures.steps in
+    record {
+      text = step.text ∙ l.invariant.text;
+      left = λ q to columns rows known few are.
+          sets_more (l.invariant.left q to columns rows known few are) step (omega (arith, c.loop-count-test.true, l.auto.sets))
+          (λ r names w. c.set_of.ensures q r columns names known few (rw c.width-before.ensures w));
+    }
 
 pub returns : goal.returns
 returns c =
     let l = c.loop-count in
-    λ q to columns rows known few are room. sets_full (l.invariant.2 q to columns rows known few are) c.loop-count-test.false
-    (omega (arith, l.invariant.1, room))
+    let all : l.count ≡ length l.sets = omega (arith, c.loop-count-test.false, l.auto.sets, l.auto.count-end) in
+    λ q to columns rows known few are room.
+    rw (← all) (sets_full (l.invariant.left q to columns rows known few are) (omega (arith, c.loop-count-test.false)) room)

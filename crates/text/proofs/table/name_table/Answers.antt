@@ -1,26 +1,36 @@
 -- `text::table::name_table` meets its contract. Assumes nothing.
-use mathlib.Core.Path.{refl, ◌∙◌}
+use mathlib.Core.Path.{◌≡◌, refl, ap, ◌∙◌}
 use native.Mathlib.Omega.{arith}
-use Rattle.naming.proofs.Runs.{told}
-use Rattle.text.proofs.Tabling.{filled_none, filled_more, filled_end}
+use lib.ListN.{length}
+use Rattle.rules.specs.Sets.{most_columns}
+use Rattle.text.proofs.Tabling.{filled_none, filled_more, filled_end, filled_full}
 use Rattle.text.proofs.table.name_table.Goals as goal
 
 pub loop-columns-init : goal.loop-columns-init
-loop-columns-init c = (omega arith, refl, λ q known w. filled_none w c.next_name-place.ensures)
+loop-columns-init c = record { text = c.new-places.ensures.text; long = refl; filled = λ q known w. filled_none c.new-places.ensures w }
 
-pub returns-then-not-in_name : goal.returns-then-not-in_name
-returns-then-not-in_name c =
-    let over = told c.byte.ensures c.in_name.ensures c.if-not-in_name.true in
-    λ q known w few. filled_end (c.loop-columns.invariant.2 q known w) over
+pub put_name-requires : goal.put_name-requires
+put_name-requires c =
+    let l = c.loop-columns in
+    let step = c.in-Some.ensures.steps in
+    (omega (arith, c.loop-columns-test.true, l.invariant.long), omega (arith, step.here, step.inside, ap length l.invariant.text))
+
+pub returns-in_default : goal.returns-in_default
+returns-in_default c = λ q known w few. filled_end (c.loop-columns.invariant.filled q known w) c.in_default.ensures.steps
 
 pub loop-columns-preserved : goal.loop-columns-preserved
 loop-columns-preserved c =
     let l = c.loop-columns in
-    let few = c.loop-columns-test.true in
-    let here = told c.byte.ensures c.in_name.ensures c.if-not-in_name.false in
-    let ends = c.name_end.ensures in
-    let put = c.put_name in (
-      omega (arith, few),
-      put.auto.names ∙ l.invariant.1,
-      λ q known w. filled_more (l.invariant.2 q known w) few here ends c.next_name-place-in-loop-columns.ensures (put.ensures _ ends),
-    )
+    let step = c.in-Some.ensures.steps in
+    let put = c.put_name in
+    record {
+      text = step.text ∙ l.invariant.text;
+      long = put.auto.names ∙ l.invariant.long;
+      filled = λ q known w. filled_more (l.invariant.filled q known w) step c.loop-columns-test.true (λ end run. put.ensures end run);
+    }
+
+pub returns : goal.returns
+returns c =
+    let l = c.loop-columns in
+    let all : l.columns ≡ most_columns = omega (arith, c.loop-columns-test.false, l.auto.columns-end) in
+    λ q known w few. rw (← all) (filled_full (l.invariant.filled q known w) (omega (arith, all)) few)

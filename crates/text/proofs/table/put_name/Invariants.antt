@@ -1,11 +1,6 @@
 -- `text::table::put_name` meets its contract. Assumes nothing.
-use Prim.Native.Nat.{◌-◌}
-use Rattle.rules.specs.Names.{most_name_bytes}
 use Rattle.text.proofs.NamesPut.{Put}
 use Rattle.text.proofs.table.put_name.Given as goal
 
 abbrev pub invariant-loop-i : goal.invariant-loop-i
 invariant-loop-i l = Put l.text l.at l.from l.initial.names l.i l.names
-
-abbrev pub decreases-loop-i : goal.decreases-loop-i
-decreases-loop-i l = most_name_bytes - l.i
