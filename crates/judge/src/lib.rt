@@ -9,6 +9,7 @@ mod unmet; // unmet.rt: needs that no extract meets
 ghost use Rattle.job.specs.Given.{given};
 ghost use Rattle.judge.specs.Promises.{Judges};
 
+// An answer. A fault is what was asked for and no failure, and each has places of its own, so this is no Result.
 #[derive(Clone, Copy, Debug, PartialEq, Eq)]
 pub enum Verdict {
     Unfit, // refusal 7: the numbers are unfit

@@ -43,6 +43,7 @@ pub fn met_lanes(row: &[u16; MOST_NEED_MARKS], block: u16) -> u64
         words: [0; MOST_NEED_MARKS],
         count: 0,
     };
+    // The marks are the numbers that callers lend, so they are matched as numbers.
     for &mark in row {
         match mark {
             END_MARK => break,

@@ -1,19 +1,18 @@
 -- Tables of a byte for each set: a need more for the sets of a block, and for those of one block more. Assumes nothing.
 use mathlib.Core.Path.{◌≡◌, sym, ap, ap₂, ◌∙◌}
-use mathlib.Core.Bool.{Bool, true, false, cond}
+use mathlib.Core.Bool.{Bool, cond}
 use mathlib.Core.List.{List, ◌++◌}
 use Prim.Native.Nat.{ℕ, ◌+◌, ◌-◌, ◌*◌, ◌<◌}
 use native.Mathlib.Decide.{dec_lt}
 use native.Mathlib.Omega.{arith}
-use lib.ListN.{length, get_or, take, drop, set, get_or-append}
-use lib.Seq.{get_or-set_same, get_or-set_other, get_or-take, get_or-drop}
+use lib.ListN.{length, get_or, take, drop, get_or-append}
+use lib.Seq.{get_or-take, get_or-drop}
 use borrow.Rule.Slice.PartMut.{put_mid}
-use borrow.Author.Count.{below_more}
 use Rattle.std.proofs.lemmas.List.Edits.{get_or-between}
 use Rattle.std.proofs.lemmas.Slice.{take-put_mid_below, drop-put_mid, between-put_mid}
 use Rattle.rules.specs.Sets.{has}
 use Rattle.tables.specs.Tables.{Tells, Valued, Stays}
-use Rattle.tables.proofs.WordTables.{stays_at, stays_later, stays_set}
+use Rattle.tables.proofs.WordTables.{stays_at, stays_later}
 
 -- ---- lane by lane in a block
 
@@ -21,29 +20,6 @@ use Rattle.tables.proofs.WordTables.{stays_at, stays_later, stays_set}
 pub record Given (lanes worth lane : ℕ) (old new : List ℕ) : Type 0 where
   pub told : (i : ℕ) → i < lane → get_or new i 0 ≡ get_or old i 0 + cond (has i lanes) worth 0
   pub stays : Stays lane old new
-
-module _ (lanes worth : ℕ) (old : List ℕ) where
-  abbrev Next : ℕ → List ℕ → Type 0
-  Next lane new = get_or new lane 0 ≡ get_or old lane 0 + cond (has lane lanes) worth 0
-
-  pub given : (lane : ℕ) (new : List ℕ) → lane < length new → Given lanes worth lane old new → has lane lanes ≡ true
-      → Given lanes worth (lane + 1) old (set new lane (get_or new lane 0 + worth))
-  given lane new h g e =
-      let value = get_or new lane 0 + worth in
-      record {
-        told =
-            below_more (λ i. Next i (set new lane value)) lane (λ i l. get_or-set_other new lane i value 0 (λ q. omega arith) ∙ g.told i l)
-            (get_or-set_same new lane value 0 h ∙ rw e (ap (λ (x : ℕ). x + worth) (stays_at lane lane old new (omega arith) g.stays)));
-        stays = stays_set lane value old new g.stays;
-      }
-
-  pub not_given : (lane : ℕ) (new : List ℕ) → Given lanes worth lane old new → has lane lanes ≡ false
-      → Given lanes worth (lane + 1) old new
-  not_given lane new g e =
-      record {
-        told = below_more (λ i. Next i new) lane g.told (rw e (omega (arith, stays_at lane lane old new (omega arith) g.stays)));
-        stays = stays_later lane (lane + 1) old new (omega arith) g.stays;
-      }
 
 -- ---- block by block in a table
 

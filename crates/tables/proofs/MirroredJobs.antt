@@ -6,8 +6,9 @@ use Rattle.rules.specs.Options.{Some}
 use Prim.Native.Nat.{ℕ, zero, suc, ◌^◌, ◌≤◌, ◌<◌}
 use native.Mathlib.Omega.{arith}
 use lib.Dec.{eqb}
-use lib.ListN.{length, take, length-map}
+use lib.ListN.{length, length-map}
 use borrow.Author.Tests.{eqb-false, ne_eqb, ltb-true, lt-ltb, not-false}
+use Rattle.std.proofs.lemmas.List.{take-map}
 use Rattle.rules.specs.Lists.{every, any_of}
 use Rattle.rules.specs.Sets.{contains, within}
 use Rattle.rules.specs.Needs.{Need}
@@ -142,15 +143,10 @@ module _ (q : Numbers) (j : Job) (e : job_of q ≡ Some j) where
 
 -- ---- the job by value
 
-take_map : {A B : Type 0} (f : A → B) (k : ℕ) (xs : List A) → take k (map f xs) ≡ map f (take k xs)
-take_map f zero xs = refl
-take_map f (suc k) [] = refl
-take_map f (suc k) (x ∷ xs) = ap (λ (l : List _). f x ∷ l) (take_map f k xs)
-
 module _ (job : Held) where
   numbers_mirrored : numbers_in (mirrored_job job) ≡ mirrored_numbers (numbers_in job)
   unfolding numbers_in
-  numbers_mirrored = rw (take_map (mirror job.columns) job.sets job.forbidden, take_map (mirrored_mark job.columns) job.marked job.marks)
+  numbers_mirrored = rw (take-map (mirror job.columns) job.sets job.forbidden, take-map (mirrored_mark job.columns) job.marked job.marks)
 
   pub mirrored_sound : Sound job → Sound (mirrored_job job)
   mirrored_sound sound =

@@ -20,6 +20,8 @@ ghost use Rattle.tables.specs.Tables.{blocks, Tells, Valued, Stays, mirror};
 // How many blocks of 64 sets the sets of 16 columns are: a table with a bit for each set has so many words.
 pub const ALL_BLOCKS: usize = 1024;
 
+// That a job is sound is asked by a clause and not by its type: the job of no columns, which `job::no_job` gives, is not sound.
+
 // The condition of a chosen need at every set of the job's columns. The index equal to the number of needs stands for "no need".
 pub fn conditions(job: &Job, chosen: usize, table: &mut [u64; ALL_BLOCKS])
     requires { Sound job.now × (chosen ≤ job.now.needs) }
