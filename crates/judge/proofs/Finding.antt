@@ -1,7 +1,7 @@
 -- What the library's chains of a search tell in the words of the rules. Assumes nothing.
-use mathlib.Core.Path.{◌≡◌, sym, ap}
-use mathlib.Core.Bool.{Bool, true, false, not}
-use mathlib.Core.List.{List, []}
+use mathlib.Core.Path.{◌≡◌, sym}
+use mathlib.Core.Bool.{Bool, true, false}
+use mathlib.Core.List.{List}
 use Prim.Native.Nat.{ℕ, ◌<◌}
 use native.Mathlib.Omega.{arith}
 use lib.ListN.{length, get_or}
@@ -10,11 +10,8 @@ use Rattle.std.specs.Option.{MatchOption}
 use Rattle.std.specs.List.{AllWithin, HoldsAt}
 use Rattle.rules.specs.Options.{Option, None, Some}
 use Rattle.rules.specs.Lists.{first_where}
-use Rattle.rules.specs.Needs.{Need, column, meets}
-use Rattle.rules.specs.Marks.{need_of, before_end}
+use Rattle.rules.specs.Needs.{Need, meets}
 use Rattle.rules.specs.Splits.{met}
-use Rattle.rules.specs.Verdicts.{first_unmet}
-use Rattle.job.specs.Rows.{StandFor}
 use Rattle.rules.proofs.Searches.{first_found, nothing_found}
 use Rattle.rules.proofs.FirstFaults.{met_found, met_nothing}
 
@@ -34,23 +31,3 @@ pub any_met : (v : Need) (split : List ℕ) (found : Bool)
     → found ≡ met split v
 any_met v split true (k, within, here) = sym (met_found v split k within (here 0))
 any_met v split false none = sym (met_nothing v split (λ k h. none k 0 (omega arith) h))
-
--- ---- rows, each of which is what a need stands for
-
-module _ (split : List ℕ) where
-  -- the need of the row is met, or is not
-  abbrev pub RowMet : Bool → List ℕ → Type 0
-  RowMet answer row = (v : Need) → need_of (before_end row) ≡ Some v → met split v ≡ answer
-
-  pub unmet_where : (rows : List (List ℕ)) (needs : List Need) → length needs ≡ length rows → StandFor rows needs → (found : Option ℕ)
-      → MatchOption found (AllWithin (RowMet true) rows 0 (length rows))
-      (λ i. (i < length rows) × HoldsAt (RowMet false) rows i × AllWithin (RowMet true) rows 0 i)
-      → found ≡ first_unmet needs split
-  unmet_where rows needs e stand None all =
-      sym (nothing_found (λ v. not (met split v)) (column 0) needs λ k h.
-      ap not (all k [] (omega arith) (omega arith) (get_or needs k (column 0)) (stand k h)))
-  unmet_where rows needs e stand (Some i) (within, here, before) =
-      let own : i < length needs = omega arith in
-      sym (first_found (λ v. not (met split v)) (column 0) needs i own
-      (λ k h. ap not (before k [] (omega arith) h (get_or needs k (column 0)) (stand k (omega arith))))
-      (ap not (here [] (get_or needs i (column 0)) (stand i own))))

@@ -2,4 +2,3 @@
 pub mod Judging
 pub mod Promises
 pub mod Finding
-pub mod Sharing

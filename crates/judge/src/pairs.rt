@@ -1,5 +1,5 @@
 // The faults that take two indices.
-ghost use Rattle.std.specs.Prelude.{◌≡◌, not, ◌+◌, ◌<◌, length, get_or, drop, IfSome};
+ghost use Rattle.std.specs.Prelude.{◌≡◌};
 ghost use Rattle.rules.specs.Lists.{first_where};
 ghost use Rattle.rules.specs.Jobs.{Job, breaks as breaks_in, unlinked as unlinked_in};
 ghost use Rattle.rules.specs.Verdicts.{first_forbidden, first_sharing};
@@ -40,27 +40,19 @@ pub fn first_forbidden(forbidden: &[u16], split: &[u16]) -> Option<(usize, usize
     None
 }
 
-// The first extract after the one at a place that shares a column with it. The next one is 0.
-fn first_linked(split: &[u16], i: usize) -> Option<usize>
-    requires { i < length split.now }
-    ensures within { IfSome result (λ j. i + 1 + j < length split.now) }
-    ensures first { (job : Job) → result ≡ first_where (λ t. not (unlinked_in job (get_or split.now i 0) t)) (drop (i + 1) split.now) }
-{
-    let extract = split[i];
-    split
-        .iter()
-        .skip(i + 1)
-        .position(|other| !unlinked(extract, *other))
-}
-
-// The first extract that shares a column with a later one, and the first such one.
+// The first extract that shares a column with a later one, and the first such one. The pairs are searched in the order in which the rules compare them, and
+// left by a label at the first pair that shares.
 pub fn first_sharing(split: &[u16]) -> Option<(usize, usize)>
     ensures { (job : Job) → places_of result ≡ first_sharing job split.now }
 {
-    for i in 0..split.len() {
-        if let Some(j) = first_linked(split, i) {
-            return Some((i, i + 1 + j));
+    let mut found = None;
+    'search: for i in 0..split.len() {
+        for j in i + 1..split.len() {
+            if !unlinked(split[i], split[j]) {
+                found = Some((i, j));
+                break 'search;
+            }
         }
     }
-    None
+    found
 }

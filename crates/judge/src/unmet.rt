@@ -16,9 +16,15 @@ fn need_met(row: &[u16; MOST_NEED_MARKS], split: &[u16]) -> bool
     split.iter().any(|extract| needs::meets(row, *extract))
 }
 
-// The first of the needs, each in its row, that no extract meets.
+// The first of the needs, each in its row, that no extract meets. A row is copied where it is evaluated.
 pub fn first_unmet(rows: &[[u16; MOST_NEED_MARKS]], split: &[u16]) -> Option<usize>
     ensures { (needs : List Need) → length needs ≡ length rows.now → StandFor rows.now needs → result ≡ first_unmet needs split.now }
 {
-    rows.iter().position(|row| !need_met(row, split))
+    for (k, row) in rows.iter().enumerate() {
+        let row = *row;
+        if !need_met(&row, split) {
+            return Some(k);
+        }
+    }
+    None
 }

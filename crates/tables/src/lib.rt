@@ -32,7 +32,8 @@ pub fn conditions(job: &Job, chosen: usize, table: &mut [u64; ALL_BLOCKS])
     let words = &mut table[..count];
     if chosen < job.needs {
         let rows = job::rows::rows_of(&job.marks[..job.marked]);
-        words::meet(&rows[chosen], words);
+        let row = rows[chosen];
+        words::meet(&row, words);
     } else {
         words::hold(words);
     }
