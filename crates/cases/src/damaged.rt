@@ -4,6 +4,7 @@ ghost use Rattle.std.specs.Prelude.{◌<◌};
 use judge::Verdict;
 use std::fmt::{self, Display, Formatter, Write};
 use std::io;
+use worked::numbers::numbers;
 use worked::random::Random;
 
 // How often each answer came.
@@ -77,12 +78,9 @@ fn noise(random: &mut Random) -> Verdict {
     let sets = (drawn / 64 % 41) as usize;
     let marked = (drawn / 4096 % 601) as usize;
     let extracts = (drawn / 4194304 % 21) as usize;
-    judge::judge(
-        (drawn % 20) as usize,
-        &forbidden[..sets],
-        &marks[..marked],
-        &split[..extracts],
-    )
+    let columns = (drawn % 20) as usize;
+    let numbers = numbers(columns, &forbidden[..sets], &marks[..marked]);
+    judge::judge(numbers, &split[..extracts])
 }
 
 // Numbers that are fit but for small damage, and a split of few columns.
@@ -103,12 +101,8 @@ fn nearly_fit(random: &mut Random) -> Verdict {
         (drawn / 16384 % 256) as usize,
         (drawn / 4194304 % 20) as u16,
     );
-    judge::judge(
-        6,
-        &forbidden[..sets],
-        &marks[..4 * needs],
-        &split[..extracts],
-    )
+    let numbers = numbers(6, &forbidden[..sets], &marks[..4 * needs]);
+    judge::judge(numbers, &split[..extracts])
 }
 
 pub fn run(rt: &impl Print) -> io::Result<()> {

@@ -1,6 +1,7 @@
 // Jobs without a correct split, beside jobs that have one because they ask a little less.
 use crate::planning::plan;
 use std::io;
+use worked::numbers::numbers;
 
 // Three needs: each wants its own of the columns 0, 1 and 2, which are forbidden together, and one of the columns 3 and 4; or 3, 4 and 5.
 const TWO_COLUMNS: [u16; 18] = [
@@ -24,35 +25,27 @@ fn alone(rt: &impl Print) -> io::Result<()> {
     plan(
         rt,
         "each need impossible alone",
-        3,
-        &[3, 6],
-        &[0, 1, 16, 18, 1, 2, 16, 18],
+        numbers(3, &[3, 6], &[0, 1, 16, 18, 1, 2, 16, 18]),
     )?;
     plan(
         rt,
         "one need of three impossible alone",
-        4,
-        &[12],
-        &[0, 18, 2, 3, 16, 18, 1, 18],
+        numbers(4, &[12], &[0, 18, 2, 3, 16, 18, 1, 18]),
     )
 }
 
 // No extract is possible at all. Without needs none is wanted.
 fn singly(rt: &impl Print) -> io::Result<()> {
-    plan(rt, "the only column forbidden", 1, &[1], &[0, 18])?;
+    plan(rt, "the only column forbidden", numbers(1, &[1], &[0, 18]))?;
     plan(
         rt,
         "all columns forbidden singly",
-        3,
-        &[1, 2, 4],
-        &[0, 1, 17, 2, 17, 18],
+        numbers(3, &[1, 2, 4], &[0, 1, 17, 2, 17, 18]),
     )?;
     plan(
         rt,
         "all columns forbidden singly, no needs",
-        3,
-        &[1, 2, 4],
-        &[],
+        numbers(3, &[1, 2, 4], &[]),
     )
 }
 
@@ -61,16 +54,16 @@ fn one_column_for_two(rt: &impl Print) -> io::Result<()> {
     plan(
         rt,
         "one column for two needs, each choice forbidden",
-        5,
-        &[5, 9, 6, 10],
-        &[4, 0, 1, 17, 16, 18, 4, 2, 3, 17, 16, 18],
+        numbers(
+            5,
+            &[5, 9, 6, 10],
+            &[4, 0, 1, 17, 16, 18, 4, 2, 3, 17, 16, 18],
+        ),
     )?;
     plan(
         rt,
         "one column for two needs, one choice left",
-        5,
-        &[5, 9, 6],
-        &[4, 0, 1, 17, 16, 18, 4, 2, 3, 17, 16, 18],
+        numbers(5, &[5, 9, 6], &[4, 0, 1, 17, 16, 18, 4, 2, 3, 17, 16, 18]),
     )
 }
 
@@ -79,23 +72,17 @@ fn too_few_columns(rt: &impl Print) -> io::Result<()> {
     plan(
         rt,
         "two columns for three needs",
-        5,
-        &[3, 5, 6],
-        &TWO_COLUMNS,
+        numbers(5, &[3, 5, 6], &TWO_COLUMNS),
     )?;
     plan(
         rt,
         "two columns for two needs",
-        5,
-        &[3, 5, 6],
-        &[0, 3, 4, 17, 16, 18, 2, 3, 4, 17, 16, 18],
+        numbers(5, &[3, 5, 6], &[0, 3, 4, 17, 16, 18, 2, 3, 4, 17, 16, 18]),
     )?;
     plan(
         rt,
         "three columns for three needs",
-        6,
-        &[3, 5, 6],
-        &THREE_COLUMNS,
+        numbers(6, &[3, 5, 6], &THREE_COLUMNS),
     )
 }
 
@@ -105,8 +92,6 @@ fn first_choice(rt: &impl Print) -> io::Result<()> {
     plan(
         rt,
         "not by the first choice",
-        4,
-        &[11],
-        &[3, 2, 16, 18, 1, 18, 3, 0, 16, 18],
+        numbers(4, &[11], &[3, 2, 16, 18, 1, 18, 3, 0, 16, 18]),
     )
 }

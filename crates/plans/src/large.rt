@@ -1,6 +1,7 @@
 // Splits of eight extracts, and jobs of 16 columns.
 use crate::planning::{plan, plan_within};
 use std::io;
+use worked::numbers::numbers;
 use worked::{dense, typical};
 
 // Every two of the columns 0 to 7.
@@ -30,24 +31,30 @@ pub fn run(rt: &impl Print) -> io::Result<()> {
 }
 
 fn eight_extracts(rt: &impl Print) -> io::Result<()> {
-    plan(rt, "eight extracts of 8 columns", 8, &PAIRS, &COLUMNS)?;
+    plan(
+        rt,
+        "eight extracts of 8 columns",
+        numbers(8, &PAIRS, &COLUMNS),
+    )?;
     plan_within(
         rt,
         "eight extracts in a slice of 16",
-        8,
-        &PAIRS,
-        &COLUMNS,
+        numbers(8, &PAIRS, &COLUMNS),
         16,
     )?;
-    plan(rt, "eight extracts of 16 columns", 16, &PAIRS, &FELLOWS)?;
+    plan(
+        rt,
+        "eight extracts of 16 columns",
+        numbers(16, &PAIRS, &FELLOWS),
+    )?;
     // All but the last pair: columns 6 and 7 come together.
     let pairs = PAIRS;
-    plan(rt, "seven extracts", 8, &pairs[..27], &COLUMNS)
+    plan(rt, "seven extracts", numbers(8, &pairs[..27], &COLUMNS))
 }
 
 fn sixteen_columns(rt: &impl Print) -> io::Result<()> {
-    plan(rt, "the last column", 16, &[32767], &[15, 18])?;
-    plan(rt, "all 16 columns in one", 16, &[], &HALVES)?;
-    plan(rt, "typical", 16, &typical::FORBIDDEN, &typical::NEEDS)?;
-    plan(rt, "dense", 16, &dense::FORBIDDEN, &dense::NEED)
+    plan(rt, "the last column", numbers(16, &[32767], &[15, 18]))?;
+    plan(rt, "all 16 columns in one", numbers(16, &[], &HALVES))?;
+    plan(rt, "typical", typical::NUMBERS)?;
+    plan(rt, "dense", dense::NUMBERS)
 }

@@ -1,40 +1,35 @@
 // One call of the planner and its line: the case, the answer, and what every place of the lent slice holds after it.
 ghost use Rattle.std.specs.Prelude.{◌≤◌};
 
+use job::Numbers;
+use job::refusals::Refusal;
 use std::io;
 use worked::lent::Lent;
 
 // The slice that is lent to the planner. No split of these cases has an extract of the number that it holds before.
 pub type Extracts = Lent<16, 60000>;
 
+// The numbers that the planner answers: the refusal's number and 0, or 0 and how many extracts there are.
+pub fn in_numbers(planned: Result<u16, Refusal>) -> (u16, u16) {
+    match planned {
+        Ok(count) => (0, count),
+        Err(refusal) => (refusal.into(), 0),
+    }
+}
+
 // With a slice that is just long enough.
-pub fn plan(
-    rt: &impl Print,
-    case: &str,
-    columns: usize,
-    forbidden: &[u16],
-    marks: &[u16],
-) -> io::Result<()> {
-    plan_within(rt, case, columns, forbidden, marks, 8)
+pub fn plan(rt: &impl Print, case: &str, numbers: Numbers) -> io::Result<()> {
+    plan_within(rt, case, numbers, 8)
 }
 
 // With a slice of this length.
-pub fn plan_within(
-    rt: &impl Print,
-    case: &str,
-    columns: usize,
-    forbidden: &[u16],
-    marks: &[u16],
-    room: usize,
-) -> io::Result<()>
+pub fn plan_within(rt: &impl Print, case: &str, numbers: Numbers, room: usize) -> io::Result<()>
     requires { room ≤ 16 }
 {
     let mut extracts = Extracts::new(room);
-    let planned = planner::plan(columns, forbidden, marks, extracts.as_mut_slice());
-    print!(rt;
-        "{case}: refusal {}, count {}, slice",
-        planned.refusal, planned.count
-    )?;
+    let planned = planner::plan(numbers, extracts.as_mut_slice());
+    let (refusal, count) = in_numbers(planned);
+    print!(rt; "{case}: refusal {refusal}, count {count}, slice")?;
     for place in extracts.as_slice() {
         print!(rt; " {place}")?;
     }

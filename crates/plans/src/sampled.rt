@@ -1,12 +1,13 @@
 // Random fit jobs of up to 10 columns, 8 forbidden sets and eight needs: a line after every 50 jobs, in which all answers so far are added up.
 ghost use Rattle.std.specs.Prelude.{◌<◌, ◌≤◌, length};
 
-use crate::planning::Extracts;
-use planner::Planned;
+use crate::planning::{Extracts, in_numbers};
+use job::refusals::Refusal;
 use std::fmt::{self, Display, Formatter, Write};
 use std::io;
 use worked::checksum::Checksum;
 use worked::forming;
+use worked::numbers::numbers;
 use worked::random::Random;
 
 // What has been added up so far.
@@ -19,11 +20,12 @@ struct Sums {
 
 impl Sums {
     // The checksum goes over all places, so that those that must stay are seen.
-    fn add(&mut self, planned: Planned, extracts: &[u16]) {
-        self.refusals = self.refusals.wrapping_add(usize::from(planned.refusal));
-        self.counts = self.counts.wrapping_add(usize::from(planned.count));
-        self.checksum.add(planned.refusal.into());
-        self.checksum.add(planned.count.into());
+    fn add(&mut self, planned: Result<u16, Refusal>, extracts: &[u16]) {
+        let (refusal, count) = in_numbers(planned);
+        self.refusals = self.refusals.wrapping_add(refusal.into());
+        self.counts = self.counts.wrapping_add(count.into());
+        self.checksum.add(refusal.into());
+        self.checksum.add(count.into());
         self.checksum.add_all(extracts);
     }
 }
@@ -66,11 +68,7 @@ fn one_more(random: &mut Random, sums: &mut Sums) {
         forming::form_need(random, need, columns);
     }
     let mut extracts = Extracts::new(room);
-    let planned = planner::plan(
-        columns as usize,
-        &forbidden[..sets],
-        marks,
-        extracts.as_mut_slice(),
-    );
+    let numbers = numbers(columns as usize, &forbidden[..sets], marks);
+    let planned = planner::plan(numbers, extracts.as_mut_slice());
     sums.add(planned, extracts.as_slice());
 }
