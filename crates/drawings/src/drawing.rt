@@ -2,7 +2,10 @@
 // that were written, and how many places of the column, low and high slices hold what they held before.
 use crate::lent::{Nodes, Rooms};
 use crate::listing;
+use diagram::Drawn;
+use job::Numbers;
 use std::io;
+use worked::numbers::{in_numbers, numbers};
 
 pub fn run(rt: &impl Print) -> io::Result<()> {
     small_table(rt)?;
@@ -13,22 +16,27 @@ pub fn run(rt: &impl Print) -> io::Result<()> {
 
 // 01, "Small table to be proved".
 fn small_table(rt: &impl Print) -> io::Result<()> {
-    both(rt, "case 1", 1, &[], &[0, 18], 0)?;
-    both(rt, "case 2", 2, &[3], &[0, 1, 17, 18], 0)?;
-    both(rt, "case 3", 2, &[], &[0, 1, 17, 18], 0)?;
-    both(rt, "case 4", 2, &[3], &[0, 1, 16, 18], 0)
+    both(rt, "case 1", numbers(1, &[], &[0, 18]), 0)?;
+    both(rt, "case 2", numbers(2, &[3], &[0, 1, 17, 18]), 0)?;
+    both(rt, "case 3", numbers(2, &[], &[0, 1, 17, 18]), 0)?;
+    both(rt, "case 4", numbers(2, &[3], &[0, 1, 16, 18]), 0)
 }
 
 // True of every set without a forbidden one: of all sets, of the empty set alone, of all but the full set.
 fn no_need(rt: &impl Print) -> io::Result<()> {
-    both(rt, "nothing forbidden", 16, &[], &[], 0)?;
-    both(rt, "each column forbidden", 2, &[1, 2], &[0, 18], 1)?;
-    both(rt, "all columns forbidden", 3, &[7], &[0, 18], 1)
+    both(rt, "nothing forbidden", numbers(16, &[], &[]), 0)?;
+    both(
+        rt,
+        "each column forbidden",
+        numbers(2, &[1, 2], &[0, 18]),
+        1,
+    )?;
+    both(rt, "all columns forbidden", numbers(3, &[7], &[0, 18]), 1)
 }
 
 // Unfit numbers, and no need of that index, even if the slices are too short as well.
 fn unfit(rt: &impl Print) -> io::Result<()> {
-    both(rt, "a missing column", 2, &[4], &[0, 18], 0)?;
+    both(rt, "a missing column", numbers(2, &[4], &[0, 18]), 0)?;
     both_within(
         rt,
         "one past no need",
@@ -79,20 +87,13 @@ fn too_short(rt: &impl Print) -> io::Result<()> {
 }
 
 // The diagram, and then the one-paths, with as many places as any diagram needs.
-fn both(
-    rt: &impl Print,
-    case: &str,
-    columns: usize,
-    forbidden: &[u16],
-    marks: &[u16],
-    chosen: usize,
-) -> io::Result<()> {
+fn both(rt: &impl Print, case: &str, numbers: Numbers, chosen: usize) -> io::Result<()> {
     let rooms = Rooms::for_paths(16, 16);
-    draw(rt, case, columns, forbidden, marks, chosen, rooms)?;
-    listing::list_within(rt, case, columns, forbidden, marks, chosen, rooms)
+    draw(rt, case, numbers, chosen, rooms)?;
+    listing::list(rt, case, numbers, chosen, rooms)
 }
 
-// One need, of column 0 alone, with node slices of these lengths.
+// One need, of column 0 alone, with slices of these lengths.
 fn both_within(
     rt: &impl Print,
     case: &str,
@@ -100,29 +101,27 @@ fn both_within(
     chosen: usize,
     rooms: Rooms,
 ) -> io::Result<()> {
-    draw(rt, case, columns, &[], &[0, 18], chosen, rooms)?;
-    listing::list_within(rt, case, columns, &[], &[0, 18], chosen, rooms)
+    let numbers = numbers(columns, &[], &[0, 18]);
+    draw(rt, case, numbers, chosen, rooms)?;
+    listing::list(rt, case, numbers, chosen, rooms)
 }
 
 fn draw(
     rt: &impl Print,
     case: &str,
-    columns: usize,
-    forbidden: &[u16],
-    marks: &[u16],
+    numbers: Numbers,
     chosen: usize,
     rooms: Rooms,
 ) -> io::Result<()> {
     let mut nodes = Nodes::new(rooms);
     let drawn = diagram::diagram(
-        columns,
-        forbidden,
-        marks,
+        numbers,
         chosen,
         nodes.column.as_mut_slice(),
         nodes.low.as_mut_slice(),
         nodes.high.as_mut_slice(),
     );
-    print!(rt; "diagram, {case}: refusal {}, ", drawn.refusal)?;
+    let (refusal, drawn) = in_numbers(drawn, Drawn { root: 0, count: 0 });
+    print!(rt; "diagram, {case}: refusal {refusal}, ")?;
     println!(rt; "root {}, count {}{nodes}", drawn.root, drawn.count)
 }

@@ -1,6 +1,7 @@
 // The slices that are lent to the calls of the diagram, and how a line shows what they hold after a call.
 ghost use Rattle.std.specs.Prelude.{◌≤◌};
 
+use diagram::Listed;
 use std::fmt::{self, Display, Formatter, Write};
 use worked::checksum::Checksum;
 use worked::lent::Lent;
@@ -15,6 +16,13 @@ pub const PATHS: usize = 16384;
 
 // A line shows the first places of a slice, up to so many.
 const MOST_SHOWN: usize = 16;
+
+// What a case writes for a refusal, which lists nothing.
+pub const NONE_LISTED: Listed = Listed {
+    root: 0,
+    count: 0,
+    paths: 0,
+};
 
 // How many places of each slice a case lends.
 #[derive(Clone, Copy)]

@@ -1,121 +1,70 @@
 // Cases of the one-paths: the published ones, path slices that are just long enough or not, and a diagram of thousands of nodes. A line has
 // the answer, the first nodes and paths that were written, how many places of the five slices hold what they held before, and a checksum of all.
-ghost use Rattle.std.specs.Prelude.{◌≤◌};
-
-use crate::lent::{Nodes, Paths, Rooms};
+use crate::lent::{NONE_LISTED, Nodes, Paths, Rooms};
+use job::Numbers;
 use std::io;
 use worked::checksum::Checksum;
+use worked::numbers::{in_numbers, numbers};
 use worked::{dense, published};
 
 pub fn run(rt: &impl Print) -> io::Result<()> {
     published(rt)?;
     path_places(rt)?;
     no_path_places(rt)?;
-    list_paths(
+    list(
         rt,
         "dense",
-        16,
-        &dense::FORBIDDEN,
-        &dense::NEED,
-        16384,
-        16384,
+        dense::NUMBERS,
+        0,
+        Rooms::for_paths(16384, 16384),
     )
 }
 
 // 000, Figure 10, has the one-paths of the needs v1, v2 and v3 as I3, I1 and I2, those with most free columns first.
 fn published(rt: &impl Print) -> io::Result<()> {
-    each_need(
-        rt,
-        "000",
-        6,
-        &published::CENSUS_FORBIDDEN,
-        &published::CENSUS_NEEDS,
-    )?;
-    each_need(
-        rt,
-        "001",
-        8,
-        &published::PATIENTS_FORBIDDEN,
-        &published::PATIENTS_NEEDS,
-    )?;
-    each_need(
-        rt,
-        "01",
-        6,
-        &published::VOLUNTEERS_FORBIDDEN,
-        &published::VOLUNTEERS_NEEDS,
-    )
+    each_need(rt, "000", published::CENSUS)?;
+    each_need(rt, "001", published::PATIENTS)?;
+    each_need(rt, "01", published::VOLUNTEERS)
 }
 
 // Three needs, and no need.
-fn each_need(
-    rt: &impl Print,
-    case: &str,
-    columns: usize,
-    forbidden: &[u16],
-    marks: &[u16],
-) -> io::Result<()> {
+fn each_need(rt: &impl Print, case: &str, numbers: Numbers) -> io::Result<()> {
     for chosen in 0..4 {
-        let rooms = Rooms::for_paths(16, 16);
-        list_within(rt, case, columns, forbidden, marks, chosen, rooms)?;
+        list(rt, case, numbers, chosen, Rooms::for_paths(16, 16))?;
     }
     Ok(())
 }
 
-// With too few places for the paths the diagram is written all the same.
+// A need with two paths. With too few places for the paths the diagram is written all the same.
 fn path_places(rt: &impl Print) -> io::Result<()> {
-    list_two(rt, "both paths fit", 2, 2)?;
-    list_two(rt, "ones one short", 1, 2)?;
-    list_two(rt, "zeros one short", 2, 1)?;
-    list_two(rt, "zeros longer", 2, 7)
+    let two = numbers(2, &[], &[0, 1, 17, 18]);
+    list(rt, "both paths fit", two, 0, Rooms::for_paths(2, 2))?;
+    list(rt, "ones one short", two, 0, Rooms::for_paths(1, 2))?;
+    list(rt, "zeros one short", two, 0, Rooms::for_paths(2, 1))?;
+    list(rt, "zeros longer", two, 0, Rooms::for_paths(2, 7))?;
+    list(rt, "no place for two", two, 0, Rooms::for_paths(0, 0))
 }
 
-// Two paths, one path, and none, which has enough places.
+// One path, and none, which has enough places.
 fn no_path_places(rt: &impl Print) -> io::Result<()> {
-    list_two(rt, "no place for two", 0, 0)?;
-    list_paths(rt, "no place for one", 16, &[], &[], 0, 0)?;
-    list_paths(rt, "no place for none", 2, &[3], &[0, 1, 16, 18], 0, 0)
-}
-
-// A need with two paths, with path slices of these lengths.
-fn list_two(rt: &impl Print, case: &str, ones_room: usize, zeros_room: usize) -> io::Result<()>
-    requires { (ones_room ≤ 16384) × (zeros_room ≤ 16384) }
-{
-    list_paths(rt, case, 2, &[], &[0, 1, 17, 18], ones_room, zeros_room)
-}
-
-// The first need, or no need where there is none, with path slices of these lengths.
-fn list_paths(
-    rt: &impl Print,
-    case: &str,
-    columns: usize,
-    forbidden: &[u16],
-    marks: &[u16],
-    ones_room: usize,
-    zeros_room: usize,
-) -> io::Result<()>
-    requires { (ones_room ≤ 16384) × (zeros_room ≤ 16384) }
-{
-    let rooms = Rooms::for_paths(ones_room, zeros_room);
-    list_within(rt, case, columns, forbidden, marks, 0, rooms)
+    let rooms = Rooms::for_paths(0, 0);
+    list(rt, "no place for one", numbers(16, &[], &[]), 0, rooms)?;
+    let never = numbers(2, &[3], &[0, 1, 16, 18]);
+    list(rt, "no place for none", never, 0, rooms)
 }
 
 // With slices of these lengths.
-pub fn list_within(
+pub fn list(
     rt: &impl Print,
     case: &str,
-    columns: usize,
-    forbidden: &[u16],
-    marks: &[u16],
+    numbers: Numbers,
     chosen: usize,
     rooms: Rooms,
 ) -> io::Result<()> {
     let mut nodes = Nodes::new(rooms);
     let mut paths = Paths::new(rooms);
     let listed = diagram::one_paths(
-        columns,
-        forbidden,
-        marks,
+        numbers,
         chosen,
         nodes.column.as_mut_slice(),
         nodes.low.as_mut_slice(),
@@ -123,10 +72,8 @@ pub fn list_within(
         paths.ones.as_mut_slice(),
         paths.zeros.as_mut_slice(),
     );
-    print!(rt;
-        "one-paths, {case}, index {chosen}: refusal {}, ",
-        listed.refusal
-    )?;
+    let (refusal, listed) = in_numbers(listed, NONE_LISTED);
+    print!(rt; "one-paths, {case}, index {chosen}: refusal {refusal}, ")?;
     print!(rt;
         "root {}, count {}, paths {}",
         listed.root, listed.count, listed.paths

@@ -1,10 +1,12 @@
 // Random fit jobs of up to 10 columns: their diagrams and one-paths, added up.
-use crate::lent::{Nodes, Paths, Rooms};
+use crate::lent::{NONE_LISTED, Nodes, Paths, Rooms};
 use diagram::Listed;
+use job::refusals::Refusal;
 use std::fmt::{self, Display, Formatter, Write};
 use std::io;
 use worked::checksum::Checksum;
 use worked::forming;
+use worked::numbers::{in_numbers, numbers};
 use worked::random::Random;
 
 // What has been added up so far.
@@ -18,8 +20,9 @@ struct Sums {
 }
 
 impl Sums {
-    fn add(&mut self, listed: Listed, nodes: &Nodes, paths: &Paths) {
-        self.refusals = self.refusals.wrapping_add(usize::from(listed.refusal));
+    fn add(&mut self, answer: Result<Listed, Refusal>, nodes: &Nodes, paths: &Paths) {
+        let (refusal, listed) = in_numbers(answer, NONE_LISTED);
+        self.refusals = self.refusals.wrapping_add(usize::from(refusal));
         self.roots = self.roots.wrapping_add(usize::from(listed.root));
         self.counts = self.counts.wrapping_add(usize::from(listed.count));
         self.paths = self.paths.wrapping_add(usize::from(listed.paths));
@@ -60,9 +63,7 @@ fn one_more(random: &mut Random, sums: &mut Sums) {
     let mut nodes = Nodes::new(rooms);
     let mut paths = Paths::new(rooms);
     let listed = diagram::one_paths(
-        columns as usize,
-        &forbidden[..sets],
-        &marks[..marked],
+        numbers(columns as usize, &forbidden[..sets], &marks[..marked]),
         chosen,
         nodes.column.as_mut_slice(),
         nodes.low.as_mut_slice(),

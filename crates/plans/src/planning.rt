@@ -2,20 +2,12 @@
 ghost use Rattle.std.specs.Prelude.{◌≤◌};
 
 use job::Numbers;
-use job::refusals::Refusal;
 use std::io;
 use worked::lent::Lent;
+use worked::numbers::in_numbers;
 
 // The slice that is lent to the planner. No split of these cases has an extract of the number that it holds before.
 pub type Extracts = Lent<16, 60000>;
-
-// The numbers that the planner answers: the refusal's number and 0, or 0 and how many extracts there are.
-pub fn in_numbers(planned: Result<u16, Refusal>) -> (u16, u16) {
-    match planned {
-        Ok(count) => (0, count),
-        Err(refusal) => (refusal.into(), 0),
-    }
-}
 
 // With a slice that is just long enough.
 pub fn plan(rt: &impl Print, case: &str, numbers: Numbers) -> io::Result<()> {
@@ -28,7 +20,7 @@ pub fn plan_within(rt: &impl Print, case: &str, numbers: Numbers, room: usize) -
 {
     let mut extracts = Extracts::new(room);
     let planned = planner::plan(numbers, extracts.as_mut_slice());
-    let (refusal, count) = in_numbers(planned);
+    let (refusal, count) = in_numbers(planned, 0);
     print!(rt; "{case}: refusal {refusal}, count {count}, slice")?;
     for place in extracts.as_slice() {
         print!(rt; " {place}")?;

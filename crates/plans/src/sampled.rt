@@ -1,13 +1,13 @@
 // Random fit jobs of up to 10 columns, 8 forbidden sets and eight needs: a line after every 50 jobs, in which all answers so far are added up.
 ghost use Rattle.std.specs.Prelude.{◌<◌, ◌≤◌, length};
 
-use crate::planning::{Extracts, in_numbers};
+use crate::planning::Extracts;
 use job::refusals::Refusal;
 use std::fmt::{self, Display, Formatter, Write};
 use std::io;
 use worked::checksum::Checksum;
 use worked::forming;
-use worked::numbers::numbers;
+use worked::numbers::{in_numbers, numbers};
 use worked::random::Random;
 
 // What has been added up so far.
@@ -21,7 +21,7 @@ struct Sums {
 impl Sums {
     // The checksum goes over all places, so that those that must stay are seen.
     fn add(&mut self, planned: Result<u16, Refusal>, extracts: &[u16]) {
-        let (refusal, count) = in_numbers(planned);
+        let (refusal, count) = in_numbers(planned, 0);
         self.refusals = self.refusals.wrapping_add(refusal.into());
         self.counts = self.counts.wrapping_add(count.into());
         self.checksum.add(refusal.into());
