@@ -82,7 +82,7 @@ module _ (behind : Option Section) (section : Section) (k b : ℕ) where
   first_found other {others = []} g m = elim m [ ]
 
   -- the byte is one of the first key that goes on, if there is one
-  pub first_some : (others : List Section) (other : Section) → find (goes_on behind section k b) others ≡ Some other
+  first_some : (others : List Section) (other : Section) → find (goes_on behind section k b) others ≡ Some other
       → first_on behind section k b others ≡ onward behind other (k + 1)
   unfolding first_on
   first_some [] other e = absurd (none-ne-some other e)
@@ -95,7 +95,7 @@ module _ (behind : Option Section) (section : Section) (k b : ℕ) where
       go false e more = more e
 
   -- and else it is wrong
-  pub first_none : (others : List Section) → find (goes_on behind section k b) others ≡ None → first_on behind section k b others ≡ Wrong
+  first_none : (others : List Section) → find (goes_on behind section k b) others ≡ None → first_on behind section k b others ≡ Wrong
   unfolding first_on
   first_none [] e = refl
   first_none (one ∷ others) e = go (goes_on behind section k b one) e (first_none others)
@@ -111,9 +111,16 @@ module _ (behind : Option Section) (section : Section) (k b : ℕ) where
   unfolding first_on
   own_on may e = rw (goes_all section (record { byte = sym e; may = may; same = λ i h. refl }), add-one k)
 
-  pub other_on : (b ≡ byte_at (key_of section) k → ⊥) → in_key behind section k b ≡ first_on behind section k b sections
-  unfolding first_on
-  other_on n = rw (not_holds (goes_on behind section k b section) (λ e. n (sym (goes_parts section e).byte)))
+  module _ (n : b ≡ byte_at (key_of section) k → ⊥) where
+    other_on : in_key behind section k b ≡ first_on behind section k b sections
+    unfolding first_on
+    other_on = rw (not_holds (goes_on behind section k b section) (λ e. n (sym (goes_parts section e).byte)))
+
+    pub other_some : (other : Section) → find (goes_on behind section k b) sections ≡ Some other → in_key behind section k b ≡ onward behind other (k + 1)
+    other_some other e = other_on ∙ first_some sections other e
+
+    pub other_none : find (goes_on behind section k b) sections ≡ None → in_key behind section k b ≡ Wrong
+    other_none e = other_on ∙ first_none sections e
 
 -- fewer bytes of a key stand than it has, or all
 pub onward_key : (behind : Option Section) (section : Section) (k : ℕ) → k < width_of section → onward behind section k ≡ Key section behind k

@@ -1,4 +1,4 @@
-// Keys that begin alike: while a key is read, each of them may be the one that stands.
+// A key while it is read. Some keys begin alike: each of them may be the one that stands.
 ghost use Rattle.std.specs.Prelude.{◌≡◌, find};
 ghost use Rattle.naming.specs.Sections.{alike as begin_alike, sections};
 ghost use Rattle.form.specs.Keys.{goes_on};
@@ -6,33 +6,33 @@ ghost use Rattle.form.specs.Keys.{goes_on};
 use crate::order::follows;
 use naming::sections::{Section, key_byte};
 
-// The first section whose key goes on with the byte.
-pub fn first_that_goes_on(
-    behind: Option<Section>,
-    section: Section,
-    k: usize,
-    byte: u8,
-) -> Option<Section>
-    ensures { result ≡ find (goes_on behind section k byte) sections }
-{
-    Section::ALL
-        .iter()
-        .copied()
-        .find(|other| goes_on(behind, section, k, byte, *other))
+// So many bytes of a key stand: of this section's, and of every other that begins alike and may stand here.
+#[derive(Clone, Copy)]
+pub struct BegunKey {
+    pub section: Section,
+    pub behind: Option<Section>, // the section of the line before, if there is one
+    pub count: usize,
 }
 
-// Whether the key of the other section may stand behind this, goes on with the byte, and begins with the k bytes of the section's key that stand
-// there.
-fn goes_on(behind: Option<Section>, section: Section, k: usize, byte: u8, other: Section) -> bool
-    ensures { result ≡ goes_on behind section k byte other }
-{
-    if !follows(behind, other) {
-        return false;
+impl BegunKey {
+    // The first section whose key goes on with the byte.
+    pub fn first_that_goes_on(self, byte: u8) -> Option<Section>
+        ensures { result ≡ find (goes_on self.behind self.section self.count byte) sections }
+    {
+        Section::ALL
+            .iter()
+            .copied()
+            .find(|other| self.goes_on(byte, *other))
     }
-    if byte != key_byte(other, k) {
-        return false;
+
+    // Whether the key of the other section may stand here, goes on with the byte, and begins with the bytes of the section's key that stand.
+    fn goes_on(self, byte: u8, other: Section) -> bool
+        ensures { result ≡ goes_on self.behind self.section self.count byte other }
+    {
+        follows(self.behind, other)
+            && byte == key_byte(other, self.count)
+            && alike(self.section, other, self.count)
     }
-    alike(section, other, k)
 }
 
 // Whether the first k bytes of two keys are the same.

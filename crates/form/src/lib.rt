@@ -2,7 +2,6 @@
 #![tactic(auto)]
 
 use machine::State;
-use naming::sections::Section;
 
 mod keys; // keys.rt: keys that begin alike
 mod machine; // machine.rt: the machine that takes a text byte by byte
@@ -15,7 +14,7 @@ ghost use Rattle.form.specs.Promises.{Told};
 pub fn form(text: &[u8]) -> Result<(), usize>
     ensures { Told text.now result }
 {
-    let mut state = State::Key(Section::Columns, None, 0);
+    let mut state = State::BEGIN;
     for (i, byte) in text.iter().enumerate() {
         state = machine::step(state, *byte);
         if let State::Wrong = state {

@@ -1,12 +1,12 @@
 // A machine that takes a text byte by byte, so that the byte at which it goes wrong is the place where the text stops being of the form. Its state is
 // what the bytes so far say about the bytes that may come.
-ghost use Rattle.std.specs.Prelude.{◌≡◌, true, ◌<◌};
-ghost use Rattle.naming.specs.Sections.{width_of, sections};
+ghost use Rattle.std.specs.Prelude.{◌≡◌, true, ◌+◌, ◌<◌};
+ghost use Rattle.naming.specs.Sections.{width_of};
 ghost use Rattle.form.specs.Order.{follows};
-ghost use Rattle.form.specs.Machine.{value_of, onward as onward_in, first_on, in_key, has_brackets, joining, at_item, behind_item, name_on};
+ghost use Rattle.form.specs.Machine.{value_of, onward as onward_in, in_key, has_brackets, joining, at_item, behind_item, name_on};
 ghost use Rattle.form.specs.Machine.{in_number, on_digit, number_ending, step as stepped, Possible};
 
-use crate::keys::first_that_goes_on;
+use crate::keys::BegunKey;
 use crate::order::likely;
 use naming::sections::{Section, key_byte, width};
 use naming::signs::{LINE_END, MOST_BRACKETS, digit, in_name, letter};
@@ -23,13 +23,33 @@ pub enum Digits {
 
 #[derive(Clone, Copy)]
 pub enum State {
-    // behind a line of this section, or first in the text, so many bytes of a key stand: of this section's, and of every other that begins alike and may stand here
-    Key(Section, Option<Section>, usize),
-    Name(Section, usize, usize), // section, bytes of a name that stand, open brackets. With 0 bytes a name or a bracket must come
-    Closed(usize), // a closing bracket stands; brackets still open
+    // So many bytes of a key stand. Its fields stand here one by one, since the machine takes a third longer where it copies a BegunKey as a whole.
+    Key {
+        section: Section,
+        behind: Option<Section>, // the section of the line before, if there is one
+        count: usize,
+    },
+    // So many bytes of a name stand, and so many brackets are open. With 0 bytes a name or a bracket must come.
+    Name {
+        section: Section,
+        count: usize,
+        opened: usize,
+    },
+    Closed {
+        opened: usize, // a closing bracket stands; brackets still open
+    },
     Number(Digits), // what stands of the end line's number
     Done, // the last line has ended
     Wrong, // no byte that follows can help
+}
+
+impl State {
+    // Where the text begins, columns= must come.
+    pub const BEGIN: Self = Self::Key {
+        section: Section::Columns,
+        behind: None,
+        count: 0,
+    };
 }
 
 // The state behind one more byte.
@@ -38,43 +58,56 @@ pub fn step(state: State, byte: u8) -> State
     ensures { result ≡ stepped state byte }
 {
     match state {
-        State::Key(section, behind, k) => in_key(behind, section, k, byte),
-        State::Name(section, count, opened) => name_on(section, count, opened, byte),
-        State::Closed(opened) => behind_item(Section::Need, opened, byte),
+        State::Key {
+            section,
+            behind,
+            count,
+        } => in_key(
+            BegunKey {
+                section,
+                behind,
+                count,
+            },
+            byte,
+        ),
+        State::Name {
+            section,
+            count,
+            opened,
+        } => name_on(section, count, opened, byte),
+        State::Closed { opened } => behind_item(Section::Need, opened, byte),
         State::Number(digits) => in_number(digits, byte),
         State::Done => State::Wrong,
         State::Wrong => State::Wrong,
     }
 }
 
-// So many bytes of a section's key stand. Where it does not go on, another may that begins alike.
-fn in_key(behind: Option<Section>, section: Section, k: usize, byte: u8) -> State
-    requires { (follows behind section ≡ true) × (k < width_of section) }
-    ensures { result ≡ in_key behind section k byte }
+// Where a section's key does not go on with the byte, another may that begins alike.
+fn in_key(key: BegunKey, byte: u8) -> State
+    requires { (follows key.behind key.section ≡ true) × (key.count < width_of key.section) }
+    ensures { result ≡ in_key key.behind key.section key.count byte }
 {
-    if byte == key_byte(section, k) {
-        return onward(behind, section, k + 1);
+    if byte == key_byte(key.section, key.count) {
+        return onward(key, key.section);
     }
-    first_on(behind, section, k, byte)
-}
-
-// The state behind the byte by the first section whose key goes on with it.
-fn first_on(behind: Option<Section>, section: Section, k: usize, byte: u8) -> State
-    requires { k < width_of section }
-    ensures { result ≡ first_on behind section k byte sections }
-{
-    match first_that_goes_on(behind, section, k, byte) {
-        Some(other) => onward(behind, other, k + 1),
+    match key.first_that_goes_on(byte) {
+        Some(other) => onward(key, other),
         None => State::Wrong,
     }
 }
 
-// So many bytes of a section's key stand: another one must come, or what stands behind the key.
-fn onward(behind: Option<Section>, section: Section, k: usize) -> State
-    ensures { result ≡ onward_in behind section k }
+// One more byte stands, of this section's key: another one must come, or what stands behind the key.
+fn onward(key: BegunKey, section: Section) -> State
+    requires { key.count < width_of key.section }
+    ensures { result ≡ onward_in key.behind section (key.count + 1) }
 {
-    if k < width(section) {
-        State::Key(section, behind, k)
+    let count = key.count + 1;
+    if count < width(section) {
+        State::Key {
+            section,
+            behind: key.behind,
+            count,
+        }
     } else {
         value(section)
     }
@@ -85,9 +118,11 @@ fn value(section: Section) -> State
     ensures { result ≡ value_of section }
 {
     match section {
-        Section::Columns => State::Name(section, 0, 0),
-        Section::Forbid => State::Name(section, 0, 0),
-        Section::Need => State::Name(section, 0, 0),
+        Section::Columns | Section::Forbid | Section::Need => State::Name {
+            section,
+            count: 0,
+            opened: 0,
+        },
         Section::End => State::Number(Digits::Nothing),
     }
 }
@@ -103,7 +138,11 @@ fn name_on(section: Section, count: usize, opened: usize, byte: u8) -> State
         return behind_item(section, opened, byte);
     }
     if count < MOST_NAME_BYTES {
-        return State::Name(section, count + 1, opened);
+        return State::Name {
+            section,
+            count: count + 1,
+            opened,
+        };
     }
     State::Wrong
 }
@@ -113,7 +152,11 @@ fn at_item(section: Section, opened: usize, byte: u8) -> State
     ensures { result ≡ at_item section opened byte }
 {
     if letter(byte) {
-        return State::Name(section, 1, opened);
+        return State::Name {
+            section,
+            count: 1,
+            opened,
+        };
     }
     if byte != b'(' {
         return State::Wrong;
@@ -122,7 +165,11 @@ fn at_item(section: Section, opened: usize, byte: u8) -> State
         return State::Wrong;
     }
     if opened < MOST_BRACKETS {
-        return State::Name(section, 0, opened + 1);
+        return State::Name {
+            section,
+            count: 0,
+            opened: opened + 1,
+        };
     }
     State::Wrong
 }
@@ -132,18 +179,26 @@ fn behind_item(section: Section, opened: usize, byte: u8) -> State
     ensures { result ≡ behind_item section opened byte }
 {
     if joins(section, byte) {
-        return State::Name(section, 0, opened);
+        return State::Name {
+            section,
+            count: 0,
+            opened,
+        };
     }
     if byte == b')' {
         return if opened == 0 {
             State::Wrong
         } else {
-            State::Closed(opened - 1)
+            State::Closed { opened: opened - 1 }
         };
     }
     if byte == LINE_END {
         return if opened == 0 {
-            State::Key(likely(section), Some(section), 0)
+            State::Key {
+                section: likely(section),
+                behind: Some(section),
+                count: 0,
+            }
         } else {
             State::Wrong
         };
