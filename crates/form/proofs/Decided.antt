@@ -15,19 +15,19 @@ use Rattle.form.proofs.Places.{Followed, followed_begin, followed_on, followed_w
 -- whether a state is this one
 wrong_or_not : (state : State) → (state ≡ Wrong) ⊎ (state ≡ Wrong → ⊥)
 wrong_or_not Wrong = inl refl
-wrong_or_not (Key section behind k) = inr (λ e. let z : ◌≡◌ {A = ℕ} 0 1 = cc in omega arith)
-wrong_or_not (Name section k opened) = inr (λ e. let z : ◌≡◌ {A = ℕ} 0 1 = cc in omega arith)
-wrong_or_not (Closed opened) = inr (λ e. let z : ◌≡◌ {A = ℕ} 0 1 = cc in omega arith)
-wrong_or_not (Number digits) = inr (λ e. let z : ◌≡◌ {A = ℕ} 0 1 = cc in omega arith)
-wrong_or_not Done = inr (λ e. let z : ◌≡◌ {A = ℕ} 0 1 = cc in omega arith)
+wrong_or_not (Key section behind k) = inr (λ e. cc)
+wrong_or_not (Name section k opened) = inr (λ e. cc)
+wrong_or_not (Closed opened) = inr (λ e. cc)
+wrong_or_not (Number digits) = inr (λ e. cc)
+wrong_or_not Done = inr (λ e. cc)
 
 done_or_not : (state : State) → (state ≡ Done) ⊎ (state ≡ Done → ⊥)
 done_or_not Done = inl refl
-done_or_not (Key section behind k) = inr (λ e. let z : ◌≡◌ {A = ℕ} 0 1 = cc in omega arith)
-done_or_not (Name section k opened) = inr (λ e. let z : ◌≡◌ {A = ℕ} 0 1 = cc in omega arith)
-done_or_not (Closed opened) = inr (λ e. let z : ◌≡◌ {A = ℕ} 0 1 = cc in omega arith)
-done_or_not (Number digits) = inr (λ e. let z : ◌≡◌ {A = ℕ} 0 1 = cc in omega arith)
-done_or_not Wrong = inr (λ e. let z : ◌≡◌ {A = ℕ} 0 1 = cc in omega arith)
+done_or_not (Key section behind k) = inr (λ e. cc)
+done_or_not (Name section k opened) = inr (λ e. cc)
+done_or_not (Closed opened) = inr (λ e. cc)
+done_or_not (Number digits) = inr (λ e. cc)
+done_or_not Wrong = inr (λ e. cc)
 
 module _ (s : List ℕ) where
   -- from a place on, with so many bytes left

@@ -20,23 +20,18 @@ use Rattle.form.proofs.Runs.{wrong_done, state_next, state_all, stays_wrong}
 pub record LeadsToEnd (s : List ℕ) : Type 0 where
   pub done : run begin s ≡ Done
 
--- a test holds or fails
-pub decided : (test : Bool) → (test ≡ true) ⊎ (test ≡ false)
-decided true = inl refl
-decided false = inr refl
-
 -- the last state is none of the others
 pub not_key : {section : Section} {behind : Option Section} {k : ℕ} → Key section behind k ≡ Done → ⊥
-not_key e = let z : ◌≡◌ {A = ℕ} 0 1 = cc in omega arith
+not_key e = cc
 
 pub not_name : {section : Section} {n opened : ℕ} → Name section n opened ≡ Done → ⊥
-not_name e = let z : ◌≡◌ {A = ℕ} 0 1 = cc in omega arith
+not_name e = cc
 
 pub not_closed : {opened : ℕ} → Closed opened ≡ Done → ⊥
-not_closed e = let z : ◌≡◌ {A = ℕ} 0 1 = cc in omega arith
+not_closed e = cc
 
 pub not_number : {digits : Digits} → Number digits ≡ Done → ⊥
-not_number e = let z : ◌≡◌ {A = ℕ} 0 1 = cc in omega arith
+not_number e = cc
 
 module _ {s : List ℕ} (led : LeadsToEnd s) where
   -- no state is the wrong one

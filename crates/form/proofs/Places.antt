@@ -17,7 +17,7 @@ use Rattle.form.proofs.Walks.{form_done}
 use Rattle.form.proofs.ReadTexts.{done_form}
 
 begin_right : begin ≡ Wrong → ⊥
-begin_right e = let z : ◌≡◌ {A = ℕ} 0 1 = cc in omega arith
+begin_right e = cc
 
 module _ (s : List ℕ) where
   -- where the state is not wrong, bytes can follow so that the text is of the form

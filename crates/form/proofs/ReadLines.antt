@@ -11,6 +11,7 @@ use lib.ListN.{length}
 use borrow.Author.Tests.{eqb-true, eqb-false}
 use Rattle.rules.specs.Signs.{byte_at, Says, digit, line_end}
 use Rattle.rules.specs.Texts.{Line, line, Lines, no_line, one_line, Number as NumberAt, one_digit, two_digits}
+use Rattle.std.proofs.lemmas.Bool.{cases_Bool}
 use Rattle.naming.specs.Sections.{key_of, width_of}
 use Rattle.naming.specs.declared.sections.Section.{Section}
 use Rattle.naming.proofs.KeyPlaces.{key_inside}
@@ -22,7 +23,7 @@ use Rattle.form.specs.Machine.{on_digit, number_ending, value_of, new_line, stat
 use Rattle.naming.proofs.AllSections.{order, same_order}
 use Rattle.form.proofs.Table.{in_order}
 use Rattle.naming.proofs.KeysApart.{one_key}
-use Rattle.form.proofs.Living.{LeadsToEnd, decided, not_number, alive, goes, must, forks}
+use Rattle.form.proofs.Living.{LeadsToEnd, not_number, alive, goes, must, forks}
 use Rattle.form.proofs.ReadKeys.{read_key}
 use Rattle.form.proofs.ReadNames.{ValueFrom}
 
@@ -81,7 +82,7 @@ module _ {s : List ℕ} (led : LeadsToEnd s) where
         another_line p (subst (λ (x : Section). Says s p (key_of x)) same here.said) value
         (read_lines left (value.0 + 1) (omega arith) (next_line section (value.0 + 1) value.5)))
         (λ over. lines_last p here (eqb-false (order section) (order other) over))
-        (decided (eqb (order section) (order other)))
+        (cases_Bool (eqb (order section) (order other)))
 
   -- ---- the number
 

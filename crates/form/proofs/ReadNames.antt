@@ -11,12 +11,12 @@ use borrow.Author.Tests.{ltb-true, eqb-true, eqb-false}
 use Rattle.rules.specs.Signs.{byte_at, letter, in_name, line_end, bracket_open, bracket_close}
 use Rattle.rules.specs.Names.{Name as NameAt, Names, spot, last_name, more_names, most_name_bytes}
 use Rattle.rules.proofs.Signs.{letter_named}
+use Rattle.std.proofs.lemmas.Bool.{cond-false}
 use Rattle.naming.proofs.Runs.{from_more}
 use Rattle.naming.specs.declared.sections.Section.{Section}
 use Rattle.form.specs.declared.machine.State.{State}
 use Rattle.form.specs.declared.machine.State.TheVariants.{Name, Done, Wrong}
 use Rattle.form.specs.Machine.{new_line, has_brackets, joining, behind_item, step, state_at}
-use Rattle.form.proofs.Runs.{cond_fails}
 use Rattle.form.proofs.Living.{LeadsToEnd, not_name, alive, within, goes, must, forks}
 
 -- an item of a section stands before place q, so many brackets are open there, and a byte follows
@@ -95,12 +95,12 @@ module _ {s : List ℕ} (led : LeadsToEnd s) where
       ⊎_elim
       (λ wrong. absurd (alive led (q + 1) wrong.1))
       (λ over. let here = must led (q + 1) (eqb b line_end) _ over.1 in (eqb-true b line_end here.0, here.1))
-      (forks led (q + 1) (eqb b bracket_close) _ _ (past.1 ∙ cond_fails (joining section b) _ _ j))
+      (forks led (q + 1) (eqb b bracket_close) _ _ (past.1 ∙ cond-false (joining section b) _ _ j))
 
   -- names joined by the sign of a section without brackets
   module _ (section : Section) (sign : ℕ) (flat : has_brackets section ≡ false) (joins : (b : ℕ) → joining section b ≡ eqb b sign) where
     no_bracket : (p : ℕ) (x : State) → state_at s (p + 1) ≡ cond (eqb (byte_at s p) bracket_open) (cond (has_brackets section) x Wrong) Wrong → ⊥
-    no_bracket p x e = alive led (p + 1) ((must led (p + 1) (eqb (byte_at s p) bracket_open) _ e).1 ∙ cond_fails (has_brackets section) _ _ flat)
+    no_bracket p x e = alive led (p + 1) ((must led (p + 1) (eqb (byte_at s p) bracket_open) _ e).1 ∙ cond-false (has_brackets section) _ _ flat)
 
     first_name : (p : ℕ) → state_at s p ≡ Name section 0 0 → NameFrom s section 0 p
     first_name p e =

@@ -9,6 +9,7 @@ use native.Mathlib.Omega.{arith}
 use lib.Dec.{ltb, eqb}
 use lib.ListN.{length}
 use borrow.Author.Tests.{ltb-true, eqb-true, eqb-false}
+use Rattle.std.proofs.lemmas.Bool.{cond-true, cond-false, cases_Bool}
 use Rattle.rules.specs.Signs.{byte_at, letter, line_end, ampersand, bar, bracket_open, bracket_close}
 use Rattle.rules.specs.Names.{spot}
 use Rattle.rules.specs.Phrases.{
@@ -36,8 +37,7 @@ use Rattle.naming.specs.declared.sections.Section.TheVariants.{Need}
 use Rattle.form.specs.declared.machine.State.TheVariants.{Name, Closed, Wrong}
 use Rattle.form.specs.Machine.{joining, state_at}
 use Rattle.form.proofs.Signs.{joins_need, joins_no_need}
-use Rattle.form.proofs.Runs.{cond_holds, cond_fails}
-use Rattle.form.proofs.Living.{LeadsToEnd, decided, not_name, not_closed, alive, within, goes, must, forks}
+use Rattle.form.proofs.Living.{LeadsToEnd, not_name, not_closed, alive, within, goes, must, forks}
 use Rattle.form.proofs.ReadNames.{ItemEnds, ValueFrom, item_ends, read_name, line_ends}
 
 -- a phrase of this kind from place p on; Ends says what is known of the byte behind it
@@ -64,7 +64,7 @@ module _ {s : List ℕ} (led : LeadsToEnd s) where
 
   -- a sign between the operands of a list
   sign_state : (j : Join) (opened p : ℕ) → ItemEnds s Need opened p → byte_at s p ≡ sign_of j → state_at s (p + 1) ≡ Name Need 0 opened
-  sign_state j opened p past e = past.1 ∙ cond_holds (joining Need (byte_at s p)) _ _ (ap (joining Need) e ∙ joins_need j)
+  sign_state j opened p past e = past.1 ∙ cond-true (joining Need (byte_at s p)) _ _ (ap (joining Need) e ∙ joins_need j)
 
   module _ (j : Join) (Ends : ℕ → Type 0) (n : ℕ) (read : CanRead s Ends (operand j) n) where
     -- what is known of the byte behind the list
@@ -99,7 +99,7 @@ module _ {s : List ℕ} (led : LeadsToEnd s) where
         let forward = one.2 in
         rest_next opened r u signed one (read_rest left one.0 opened (join_of j u one.1) (omega arith) (omega arith) one.4 one.5))
         (λ over. rest_last opened r u (eqb-false b (sign_of j) over) ends past)
-        (decided (eqb b (sign_of j)))
+        (cases_Bool (eqb b (sign_of j)))
 
     read_list : CanRead s EndsList (list j) n
     read_list p opened h e =
@@ -119,7 +119,7 @@ module _ {s : List ℕ} (led : LeadsToEnd s) where
       ⊎_elim
       (λ here. (eqb-true b bracket_close here.0, here.1))
       (λ over. absurd (alive led (q + 1) (must led (q + 1) (eqb b line_end) Wrong over.1).1))
-      (forks led (q + 1) (eqb b bracket_close) _ _ (past.1 ∙ cond_fails (joining Need b) _ _ (joins_no_need b ends.0.1 ends.1)))
+      (forks led (q + 1) (eqb b bracket_close) _ _ (past.1 ∙ cond-false (joining Need b) _ _ (joins_no_need b ends.0.1 ends.1)))
 
   read_bracket : (n p opened : ℕ) → CanRead s EndsOrs (list ors) n → length s < p + suc n → byte_at s p ≡ bracket_open → opened < most_brackets
       → state_at s (p + 1) ≡ Name Need 0 (suc opened) → PhraseFrom s EndsItem item opened p

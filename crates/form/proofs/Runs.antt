@@ -1,6 +1,6 @@
 -- Laws of runs of the machine: of a text in two parts, of one byte more, of states that stay. Assumes nothing.
 use mathlib.Core.Path.{◌≡◌, refl, ap, ◌∙◌}
-use mathlib.Core.Bool.{Bool, true, false, cond, true≢false, false≢true}
+use mathlib.Core.Bool.{true}
 use mathlib.Core.List.{List, [], ◌∷◌, ◌++◌}
 use Prim.Native.Nat.{ℕ, zero, suc, ◌+◌, ◌<◌, ◌≤◌}
 use native.Mathlib.Numerals.{add-one}
@@ -19,16 +19,7 @@ use Rattle.form.specs.Machine.{step, begin, run, state_at}
 
 -- the wrong state is not the last one
 pub wrong_done : Wrong ≡ Done → ⊥
-wrong_done e = let z : ◌≡◌ {A = ℕ} 0 1 = cc in omega arith
-
--- a state chosen by a test that holds, or that fails
-pub cond_holds : (test : Bool) (x y : State) → test ≡ true → cond test x y ≡ x
-cond_holds true x y e = refl
-cond_holds false x y e = absurd (false≢true e)
-
-pub cond_fails : (test : Bool) (x y : State) → test ≡ false → cond test x y ≡ y
-cond_fails true x y e = absurd (true≢false e)
-cond_fails false x y e = refl
+wrong_done e = cc
 
 -- ---- runs
 

@@ -15,6 +15,7 @@ use Rattle.rules.specs.Phrases.{Stands, first, last, next, name, bracketed}
 use Rattle.rules.specs.Texts.{Line, Lines, no_line, one_line, Number as NumberAt, one_digit, two_digits, HasForm}
 use Rattle.rules.proofs.Signs.{inside, named_inside}
 use Rattle.rules.proofs.Names.{name_begins, name_some}
+use Rattle.std.proofs.lemmas.Bool.{cond-true, cond-false}
 use Rattle.naming.specs.Sections.{key_of, width_of}
 use Rattle.naming.specs.declared.sections.Section.{Section}
 use Rattle.naming.specs.declared.sections.Section.TheVariants.{Columns, Forbid, Need, End}
@@ -29,7 +30,7 @@ use Rattle.naming.proofs.AllSections.{order, same_order}
 use Rattle.form.proofs.Table.{later_may}
 use Rattle.naming.proofs.KeysApart.{key_bytes}
 use Rattle.form.proofs.Signs.{digit_not, line_over}
-use Rattle.form.proofs.Runs.{cond_holds, cond_fails, state_next, state_by, state_said, state_all}
+use Rattle.form.proofs.Runs.{state_next, state_by, state_said, state_all}
 use Rattle.form.proofs.RunKeys.{run_key}
 
 module _ (s : List ℕ) where
@@ -63,7 +64,7 @@ module _ (s : List ℕ) where
   name_goes section opened p q here e zero h =
       let b = byte_at s p in
       state_from p (Name section 0 opened) (named_inside s p (name_begins here)) e
-      ∙ cond_holds (letter b) (Name section 1 opened) _ here.begins
+      ∙ cond-true (letter b) (Name section 1 opened) _ here.begins
   name_goes section opened p q here e (suc n) h =
       let i = p + suc n in
       let b = byte_at s i in
@@ -71,8 +72,8 @@ module _ (s : List ℕ) where
       let named : in_name b ≡ true = here.run.goes_on i (omega arith) (omega arith) in
       let on : state_at s (i + 1) ≡ Name section (suc (suc n)) opened =
       state_from i (Name section (suc n) opened) (named_inside s i named) (name_goes section opened p q here e n (omega arith))
-      ∙ cond_holds (in_name b) _ (behind_item section opened b) named
-      ∙ cond_holds (ltb (suc n) most_name_bytes) (Name section (suc (suc n)) opened) Wrong (lt-ltb (suc n) most_name_bytes (omega arith)) in
+      ∙ cond-true (in_name b) _ (behind_item section opened b) named
+      ∙ cond-true (ltb (suc n) most_name_bytes) (Name section (suc (suc n)) opened) Wrong (lt-ltb (suc n) most_name_bytes (omega arith)) in
       let place : i + 1 ≡ p + suc (suc n) = omega arith in
       subst (λ (q : ℕ). state_at s q ≡ Name section (suc (suc n)) opened) place on
 
@@ -83,14 +84,14 @@ module _ (s : List ℕ) where
       let place : p + suc n ≡ q = omega arith in
       let at : state_at s q ≡ Name section (suc n) opened =
       subst (λ (i : ℕ). state_at s i ≡ Name section (suc n) opened) place (name_goes section opened p q here e n (omega arith)) in
-      state_from q (Name section (suc n) opened) h at ∙ cond_fails (in_name (byte_at s q)) _ _ here.run.ends
+      state_from q (Name section (suc n) opened) h at ∙ cond-false (in_name (byte_at s q)) _ _ here.run.ends
 
   names_walk : (section : Section) (sign : ℕ) → joining section sign ≡ true → 0 < sign → {p q : ℕ} {spots : List Spot} → Names s sign p q spots
       → state_at s p ≡ Name section 0 0 → Passed section 0 q
   names_walk section sign j g (last_name {p} {q} here no_more) e = name_walk section 0 p q here e
   names_walk section sign j g (more_names {p} {r} here signed more) e =
       names_walk section sign j g more
-      (behind_by section 0 r sign (name_walk section 0 p r here e) signed g ∙ cond_holds (joining section sign) _ _ j)
+      (behind_by section 0 r sign (name_walk section 0 p r here e) signed g ∙ cond-true (joining section sign) _ _ j)
 
   -- ---- phrases
 
@@ -119,7 +120,7 @@ module _ (s : List ℕ) where
   stands_walk opened h (bracketed {deep} {p} {q} open_said inner close-said) e =
       let in_bracket : state_at s (p + 1) ≡ Name Need 0 (suc opened) =
       state_by s p bracket_open (Name Need 0 opened) e open_said (lit< tt)
-      ∙ cond_holds (ltb opened most_brackets) (Name Need 0 (suc opened)) Wrong (lt-ltb opened most_brackets (omega arith)) in
+      ∙ cond-true (ltb opened most_brackets) (Name Need 0 (suc opened)) Wrong (lt-ltb opened most_brackets (omega arith)) in
       let behind = stands_walk (suc opened) (omega arith) inner in_bracket in
       λ g. state_from (q + 1) (Closed opened) g (behind_by Need (suc opened) q bracket_close behind close-said (lit< tt))
 
@@ -161,8 +162,8 @@ module _ (s : List ℕ) where
   digit_walk p digits d e =
       let b = byte_at s p in
       state_from p (Number digits) (inside s p (digit_not b 0 refl d)) e
-      ∙ cond_fails (eqb b line_end) (number_ending digits) _ (ne_eqb b line_end (digit_not b line_end refl d))
-      ∙ cond_holds (digit b) _ Wrong d
+      ∙ cond-false (eqb b line_end) (number_ending digits) _ (ne_eqb b line_end (digit_not b line_end refl d))
+      ∙ cond-true (digit b) _ Wrong d
 
   number_walk : {p q v : ℕ} → NumberAt s p q v → state_at s p ≡ Number Nothing → byte_at s q ≡ line_end → state_at s (q + 1) ≡ Done
   number_walk (one_digit {p} d) e ended = go (eqb (byte_at s p) 48) (digit_walk p Nothing d e)
@@ -172,7 +173,7 @@ module _ (s : List ℕ) where
       go false f = state_by s (p + 1) line_end (Number Other) f ended (lit< tt)
   number_walk (two_digits {p} d n d') e ended =
       let one : state_at s (p + 1) ≡ Number Other =
-      digit_walk p Nothing d e ∙ cond_fails (eqb (byte_at s p) 48) (Number Zero) (Number Other) (ne_eqb (byte_at s p) 48 n) in
+      digit_walk p Nothing d e ∙ cond-false (eqb (byte_at s p) 48) (Number Zero) (Number Other) (ne_eqb (byte_at s p) 48 n) in
       let two : state_at s (p + 1 + 1) ≡ Number Two = digit_walk (p + 1) Other d' one in
       let place : p + 1 + 1 ≡ p + 2 = omega arith in
       state_by s (p + 2) line_end (Number Two) (subst (λ (q : ℕ). state_at s q ≡ Number Two) place two) ended (lit< tt)

@@ -12,6 +12,7 @@ use lib.Seq.{get_or-drop}
 use borrow.Author.Tests.{eqb-true}
 use Rattle.std.specs.List.{prefix_len}
 use Rattle.std.specs.Cmp.Lexicographic.{pointwise}
+use Rattle.std.proofs.lemmas.Bool.{not-false}
 use Rattle.std.proofs.lemmas.List.Folds.{length-prefix_len}
 use Rattle.std.proofs.lemmas.List.Sums.{prefix_len-le-length, prefix_len_passes, prefix_len_stops}
 use Rattle.rules.specs.Signs.{byte_at, in_name, line_end}
@@ -52,10 +53,6 @@ beginning_front (b ∷ s) = go (in_name b) (beginning_front s)
 abbrev pub goes_on : ℕ → Bool
 goes_on b = not (eqb b line_end)
 
-not_false : (t : Bool) → not t ≡ false → t ≡ true
-not_false true e = refl
-not_false false e = absurd (true≢false e)
-
 module _ (s : List ℕ) (p : ℕ) where
   pub name_front : name_at s p ≡ take (so_many in_name s p) (drop p s)
   name_front = beginning_front (drop p s)
@@ -90,7 +87,7 @@ module _ (s : List ℕ) (p : ℕ) where
     forward = omega arith;
     inside = front_inside goes_on s p;
     goes_on = λ i l h e. true≢false (sym (front_passes goes_on s p i l h) ∙ ap goes_on e);
-    stops = λ h. eqb-true _ line_end (not_false _ (front_stops goes_on s p h));
+    stops = λ h. eqb-true _ line_end (not-false _ (front_stops goes_on s p h));
   }
 
 -- names are compared as the library compares slices
