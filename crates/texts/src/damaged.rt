@@ -2,6 +2,7 @@
 ghost use Rattle.std.specs.Prelude.{◌≤◌, length};
 
 use crate::answers;
+use job::refusals::Fault;
 use spelt::draft::Draft;
 use std::fmt::{self, Display, Formatter, Write};
 use text::JobRead;
@@ -32,11 +33,14 @@ impl Sums {
         }
     }
 
-    fn add(&mut self, read: &JobRead) {
+    fn add(&mut self, answer: &Result<JobRead, Fault>) {
         self.texts = self.texts.wrapping_add(1);
-        self.refusals = self.refusals.wrapping_add(usize::from(read.refusal));
-        self.places = self.places.wrapping_add(read.place);
-        answers::add_answer(&mut self.checksum, read);
+        if let Err(fault) = answer {
+            let number = u16::from(fault.refusal);
+            self.refusals = self.refusals.wrapping_add(number.into());
+            self.places = self.places.wrapping_add(fault.place);
+        }
+        answers::add_answer(&mut self.checksum, answer);
     }
 }
 
