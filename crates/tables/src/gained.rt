@@ -20,6 +20,7 @@ pub fn add(met: &[u64], k: usize, table: &mut [u8])
     requires { (k < 8) × (length met.now ≤ all_blocks) × (length table.old ≡ 64 * length met.now) × ((s : ℕ) → s < 64 * length met.now → get_or table.old s 0 < 2 ^ k) }
     ensures { Adds k (length met.now) met.now table.old table.new }
 {
+    // The places are lent by their range: of what chunks_exact_mut lends, nothing is known after the loop.
     for (block, lanes) in met.iter().enumerate() {
         add_block(*lanes, k, &mut table[64 * block..64 * block + 64]);
     }

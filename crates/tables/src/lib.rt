@@ -29,15 +29,15 @@ pub fn conditions(job: &Job, chosen: usize, table: &mut [u64; ALL_BLOCKS])
     ensures stays { Stays (blocks job.now.columns) table.old table.new }
 {
     let count = words::block_count(job.columns);
-    let words = &mut table[..count];
+    let places = &mut table[..count];
     if chosen < job.needs {
         let rows = job::rows::rows_of(&job.marks[..job.marked]);
         let row = rows[chosen];
-        words::meet(&row, words);
+        words::meet(&row, places);
     } else {
-        words::hold(words);
+        words::hold(places);
     }
-    words::forbid_all(&job.forbidden[..job.sets], words);
+    words::forbid_all(&job.forbidden[..job.sets], places);
 }
 
 // The condition as above, with the columns in the other order: the set at a place of the table is the mirror of the place.

@@ -29,14 +29,14 @@ returns-clause-told c =
     let count = c.block_count-count.result in
     let all = c.block_count-count.ensures.is ∙ job_blocks a.job.now c.requires.0 in
     let front : length (take count a.table.now) ≡ count = search rules in
-    let size : length c.if-chosen-job.words ≡ count = search rules in
-    let none_out : (j : Job) → job_of (numbers_in a.job.now) ≡ Some j → Tells count (meets_chosen j.needs a.chosen) c.if-chosen-job.words =
+    let size : length c.if-chosen-job.places ≡ count = search rules in
+    let none_out : (j : Job) → job_of (numbers_in a.job.now) ≡ Some j → Tells count (meets_chosen j.needs a.chosen) c.if-chosen-job.places =
     -- the branch has written the chosen need, or every set where there is none
     λ j q. elim c.if-chosen-job.branch [
-      | then-chosen-job w ↦ need_told a.job.now c.requires.0 j q a.chosen count c.if-chosen-job.words w.if-chosen-job.true
-          (λ v r. rw (w.words-is, ← front) (w.meet.ensures v (rw w.rows_of-rows.ensures r)))
-      | else-chosen-job w ↦ none_told a.job.now c.requires.0 j q a.chosen count c.if-chosen-job.words w.if-chosen-job.false
-          (rw (w.words-is, ← front) w.hold.ensures)
+      | then-chosen-job w ↦ need_told a.job.now c.requires.0 j q a.chosen count c.if-chosen-job.places w.if-chosen-job.true
+          (λ v r. rw (w.places-is, ← front) (w.meet.ensures v (rw w.rows_of-rows.ensures r)))
+      | else-chosen-job w ↦ none_told a.job.now c.requires.0 j q a.chosen count c.if-chosen-job.places w.if-chosen-job.false
+          (rw (w.places-is, ← front) w.hold.ensures)
     ] in
     λ j q. rw (← all) (tells_front count (condition j a.chosen) c.forbid_all.new.table _ (search rules)
     (condition_told a.job.now c.requires.0 j q a.chosen count c.forbid_all.new.table
