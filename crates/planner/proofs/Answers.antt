@@ -1,8 +1,11 @@
 -- What the call for the planner's split gives in each of its ways. Assumes nothing.
 use mathlib.Core.Path.{◌≡◌, refl, sym, subst, ◌∙◌}
 use mathlib.Core.List.{List}
-use Rattle.rules.specs.Options.{None, Some}
-use Prim.Native.Nat.{ℕ, ◌*◌, ◌^◌, ◌≤◌, ◌<◌}
+use Rattle.rules.specs.Options.{Option, None, Some, unwrap_or}
+use Rattle.std.specs.Prelude.{IfSome}
+use Rattle.std.specs.Option.{ok_or}
+use Rattle.job.specs.declared.refusals.Refusal.TheVariants.{NoCorrectSplit}
+use Prim.Native.Nat.{ℕ, ◌+◌, ◌*◌, ◌^◌, ◌≤◌, ◌<◌}
 use native.Mathlib.Decide.{dec_lt}
 use native.Mathlib.Omega.{arith}
 use lib.ListN.{length}
@@ -28,7 +31,7 @@ use Rattle.tables.proofs.JobTables.{few_columns_lem}
 use Rattle.parts.specs.Parts.{in_table}
 use Rattle.searching.specs.Prices.{price_of}
 use Rattle.searching.specs.Searching.{Searched}
-use Rattle.planner.specs.Promises.{Plans}
+use Rattle.planner.specs.Promises.{Plans, in_numbers}
 use Rattle.planner.proofs.Gains.{gains_columns}
 use Rattle.planner.proofs.BestSplits.{total_cost, first_planned, none_correct}
 
@@ -103,7 +106,7 @@ module _ (q : Numbers) (old : List ℕ) where
 
       module _ (count : ℕ) (new : List ℕ)
           (searched : Searched (in_table table) price_of (full held.columns) (full held.needs) held.needs count old new) where
-        pub plans_none : held.needs < count → Plans q old (record { refusal = 9; count = 0 }) new
+        plans_none : held.needs < count → Plans q old (record { refusal = 9; count = 0 }) new
         plans_none h =
             let s = in_words count new searched in
             let more : length job.needs < count = omega (arith, meant.many) in
@@ -111,7 +114,7 @@ module _ (q : Numbers) (old : List ℕ) where
             subst (λ (slice : List ℕ). Plans q old (record { refusal = 9; count = 0 }) slice) (sym (s.stays more))
             (plans_refused q old no_correct_split (planning_none q old job meant.known room none_there))
 
-        pub plans_all : count ≤ held.needs → Plans q old (record { refusal = 0; count = count }) new
+        plans_all : count ≤ held.needs → Plans q old (record { refusal = 0; count = count }) new
         plans_all h =
             let found = (in_words count new searched).found (omega (arith, meant.many)) in
             let best =
@@ -120,3 +123,10 @@ module _ (q : Numbers) (old : List ℕ) where
             plans_planned q old found.split new count
             (planning_planned q old job meant.known room found.split (planned_plan job fewer found.split best)) found.first.as_many
             found.laid
+
+      -- what was found, or the refusal where nothing was
+      pub plans_best : (best : Option ℕ) (new : List ℕ) → IfSome best (λ count. count ≤ held.needs)
+          → Searched (in_table table) price_of (full held.columns) (full held.needs) held.needs (unwrap_or best (held.needs + 1)) old new
+          → Plans q old (in_numbers (ok_or best NoCorrectSplit)) new
+      plans_best None new near searched = plans_none (held.needs + 1) new searched (omega arith)
+      plans_best (Some count) new near searched = plans_all count new searched near

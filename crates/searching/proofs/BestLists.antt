@@ -6,49 +6,47 @@ use native.Mathlib.Decide.{dec_lt}
 use native.Mathlib.Omega.{arith}
 use lib.ListN.{length, set, length-append}
 use Rattle.rules.specs.Lists.{written}
-use Rattle.rules.specs.Sets.{without}
 use Rattle.rules.specs.Plans.{not_after}
 use Rattle.rules.proofs.Written.{written_last}
-use Rattle.rules.proofs.Differences.{contains_without}
-use Rattle.parts.specs.Parts.{Bounded}
+use Rattle.rules.proofs.Sets.{without_below}
 use Rattle.searching.specs.Serving.{Serves, total, Servable, Least, First, Completes}
 use Rattle.searching.specs.Searching.{left_after, Next, SomeNext, FirstNext, LeastFrom, FirstFrom, Taken}
-use Rattle.searching.specs.declared.serve.Task.{Task}
+use Rattle.searching.specs.declared.task.Task.{Task}
 use Rattle.searching.proofs.Servables.{no_set_left}
 use Rattle.searching.proofs.Firsts.{some_completes, least_after, first_after, none_again}
-use Rattle.searching.proofs.Trying.{bounded_part}
 
 -- the first sets of the best list have been written, the others are the best list of what is left to do, and they come from a number on
-pub record Begun (gain price possible : ℕ → ℕ) (all task : Task) (from : ℕ) (old new : List ℕ) : Type 0 where
+pub record Begun (gain price : ℕ → ℕ) (all task : Task) (place from : ℕ) (old new : List ℕ) : Type 0 where
   pub begun : List ℕ
   pub laid : new ≡ written begun old
-  pub many : length begun + task.extracts ≡ all.extracts
+  pub many : length begun ≡ place
+  pub left : place + task.extracts ≡ all.extracts
   pub room : all.extracts ≤ length old
+  pub small : task.unmet < 2 ^ 16
   pub least : LeastFrom gain price task
-  pub bounded : Bounded gain possible task.free.bits
   pub none_below : 0 < task.extracts → (t : ℕ) → t < from → Next gain price task t → ⊥
   pub whole : (rest : List ℕ) → FirstFrom gain price task rest → FirstFrom gain price all (begun ++ rest)
 
-module _ (gain price possible : ℕ → ℕ) (all : Task) (old : List ℕ) where
-  pub begun_none : all.extracts ≤ length old → LeastFrom gain price all → Bounded gain possible all.free.bits
-      → Begun gain price possible all all 0 old old
+module _ (gain price : ℕ → ℕ) (all : Task) (old : List ℕ) where
+  pub begun_none : all.extracts ≤ length old → all.unmet < 2 ^ 16 → LeastFrom gain price all → Begun gain price all all 0 0 old old
   unfolding written
-  begun_none room least bounded =
+  begun_none room small least =
       record {
         begun = [];
         laid = refl;
-        many = omega arith;
+        many = refl;
+        left = omega arith;
         room = room;
+        small = small;
         least = least;
-        bounded = bounded;
         none_below = λ some t l n. absurd (omega arith);
         whole = λ rest f. f;
       }
 
-  module _ (task : Task) (from : ℕ) (new : List ℕ) (b : Begun gain price possible all task from old new) where
-    pub begun_some : 0 < task.extracts → task.unmet < 2 ^ 16 → SomeNext gain price task from
-    begun_some some small =
-        let s = some_completes gain price (task.extracts - 1) task.free.bits task.unmet task.cost small
+  module _ (task : Task) (place from : ℕ) (new : List ℕ) (b : Begun gain price all task place from old new) where
+    pub begun_some : 0 < task.extracts → SomeNext gain price task from
+    begun_some some =
+        let s = some_completes gain price (task.extracts - 1) task.free.bits task.unmet task.cost b.small
         (subst (λ (many : ℕ). Least gain price many task.free.bits task.unmet task.cost) more b.least) in
         record { left = some; set = s.0; later = go s.0 s.1 (dec_lt s.0 from); next = s.1 }
       where
@@ -59,25 +57,26 @@ module _ (gain price possible : ℕ → ℕ) (all : Task) (old : List ℕ) where
         go s n (yes l) = absurd (b.none_below some s l n)
         go s n (no l) = omega arith
 
-    pub begun_more : 0 < task.extracts → task.unmet < 2 ^ 16 → (s : ℕ) → FirstNext gain price task from s
-        → Begun gain price possible all (left_after price task s (gain s)) (s + 1) old (set new (all.extracts - task.extracts) s)
-    begun_more some small s f =
-        record {
+    pub begun_more : 0 < task.extracts → (s : ℕ) → FirstNext gain price task from s → (rest : Task)
+        → rest ≡ left_after price task s (gain s) → Begun gain price all rest (place + 1) (s + 1) old (set new place s)
+    begun_more some s f rest is_rest =
+        subst (λ (r : Task). Begun gain price all r (place + 1) (s + 1) old (set new place s)) (sym is_rest)
+        (record {
           begun = b.begun ++ (s ∷ []);
-          laid = ap (λ (place : ℕ). set new place s) (omega (arith, b.many)) ∙ ap (λ (xs : List ℕ). set xs (length b.begun) s) b.laid
-              ∙ written_last b.begun old s (omega (arith, b.many, b.room));
+          laid = ap (λ (p : ℕ). set new p s) (sym b.many) ∙ ap (λ (xs : List ℕ). set xs (length b.begun) s) b.laid
+              ∙ written_last b.begun old s (omega (arith, b.many, b.left, b.room));
           many = omega (arith, length-append b.begun (s ∷ []), b.many);
+          left = omega (arith, b.left);
           room = b.room;
-          least = least_after gain price (task.extracts - 1) task.free.bits task.unmet task.cost small least s f.next;
-          bounded = bounded_part gain possible task.free.bits (without task.free.bits s) (contains_without task.free.bits s)
-              b.bounded;
+          small = without_below task.unmet (gain s);
+          least = least_after gain price (task.extracts - 1) task.free.bits task.unmet task.cost b.small least s f.next;
           none_below = none_later;
-          whole = λ rest g.
-              subst (λ (split : List ℕ). FirstFrom gain price all split) (sym (append_assoc b.begun (s ∷ []) rest)) (b.whole (s ∷ rest)
-              (subst (λ (many : ℕ). First gain price many task.free.bits task.unmet task.cost (s ∷ rest)) (sym more)
-              (first_after gain price (task.extracts - 1) task.free.bits task.unmet task.cost small least s f.next none_smaller rest
+          whole = λ others g.
+              subst (λ (split : List ℕ). FirstFrom gain price all split) (sym (append_assoc b.begun (s ∷ []) others)) (b.whole (s ∷ others)
+              (subst (λ (many : ℕ). First gain price many task.free.bits task.unmet task.cost (s ∷ others)) (sym more)
+              (first_after gain price (task.extracts - 1) task.free.bits task.unmet task.cost b.small least s f.next none_smaller others
               g)));
-        }
+        })
       where
         more : task.extracts ≡ suc (task.extracts - 1)
         more = omega arith

@@ -1,14 +1,15 @@
 -- Laws of a task and of the sets that suit it, as the code computes them. Assumes nothing.
 use mathlib.Core.Path.{◌≡◌, sym}
-use mathlib.Core.Bool.{Bool, false, ◌&&◌}
+use mathlib.Core.Bool.{Bool, ◌&&◌}
 use Prim.Native.Nat.{ℕ, ◌-◌, ◌^◌, ◌<◌}
 use lib.Bits.{bit_and}
+use lib.Dec.{eqb}
 use borrow.Author.Tests.{eq-eqb, ne_eqb}
 use Rattle.rules.specs.Sets.{contains, without}
 use Rattle.rules.proofs.Sets.{contains_bits, without_bits}
 use Rattle.columns.specs.declared.ColumnSet.{ColumnSet}
 use Rattle.searching.specs.Searching.{left_after}
-use Rattle.searching.specs.declared.serve.Task.{Task}
+use Rattle.searching.specs.declared.task.Task.{Task}
 
 pub task_left : (price : ℕ → ℕ) (task : Task) (s gained : ℕ) (free : ColumnSet) (paid : ℕ) → task.unmet < 2 ^ 16
     → free.bits ≡ without task.free.bits s → paid ≡ price s
@@ -23,7 +24,7 @@ task_left price task s gained free paid b f p =
     }
 
 module _ (gained wanted : ℕ) (b : wanted < 2 ^ 16) where
-  pub not_suited : (payable : Bool) → (bit_and gained wanted ≡ wanted → ⊥) → false ≡ (contains gained wanted && payable)
+  pub not_suited : (payable : Bool) → (bit_and gained wanted ≡ wanted → ⊥) → eqb (bit_and gained wanted) wanted ≡ (contains gained wanted && payable)
   not_suited payable n = rw (contains_bits gained wanted b, ne_eqb (bit_and gained wanted) wanted n)
 
   pub suited_if : (payable : Bool) → bit_and gained wanted ≡ wanted → payable ≡ (contains gained wanted && payable)

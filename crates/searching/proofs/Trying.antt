@@ -1,21 +1,21 @@
 -- Laws of trying the sets of the free columns one after the other: what is known after each, and what the answer then is. Assumes nothing.
 use mathlib.Core.Path.{◌≡◌, refl, sym, subst}
 use mathlib.Core.Bool.{Bool, true, false, ◌&&◌}
-use Prim.Native.Nat.{ℕ, suc, ◌-◌, ◌^◌, ◌≤◌, ◌<◌}
+use Prim.Native.Nat.{ℕ, suc, ◌-◌, ◌^◌, ◌<◌}
 use native.Mathlib.Nat.{lt_of_le_of_lt}
 use native.Mathlib.Omega.{arith}
-use lib.Dec.{leb}
+use lib.Dec.{eqb, leb}
 use lib.Bits.{bit_and, and_le_l}
-use borrow.Author.Tests.{leb-true, le-leb}
-use Rattle.rules.specs.Sets.{contains, without}
+use borrow.Author.Tests.{eq-eqb, ne_eqb, leb-true, le-leb}
+use Rattle.rules.specs.Sets.{contains}
 use Rattle.rules.proofs.Lists.{and_parts, and_both, holds_fails}
 use Rattle.rules.proofs.Sets.{contains_and}
-use Rattle.rules.proofs.Differences.{contains_without, next_within}
+use Rattle.rules.proofs.Differences.{next_within}
 use Rattle.parts.specs.Parts.{Inside, Bounded}
 use Rattle.parts.proofs.LeanSets.{inside_own}
 use Rattle.searching.specs.Serving.{Servable, Decides}
 use Rattle.searching.specs.Searching.{ServableFrom, left_after, Wanted}
-use Rattle.searching.specs.declared.serve.Task.{Task}
+use Rattle.searching.specs.declared.task.Task.{Task}
 use Rattle.searching.proofs.Serving.{inside_wider}
 use Rattle.searching.proofs.Servables.{nothing_unmet, no_set_left, within_possible}
 use Rattle.searching.proofs.Servables.{Suits, suits_served, none_above_all, none_above_next, none_serves}
@@ -35,27 +35,21 @@ pub bounded_part : (lean possible : ℕ → ℕ) (free part : ℕ) → contains 
 bounded_part lean possible free part c b =
     record { nothing = b.nothing; bound = λ around s i j. b.bound around s (inside_wider part free around c i) j }
 
-pub less_to_do : (lean possible price : ℕ → ℕ) (task rest : Task) (s gained many : ℕ) → rest ≡ left_after price task s gained
-    → (task.extracts ≡ 0 → ⊥) → task.extracts ≡ many → Bounded lean possible task.free.bits → (rest.extracts < many) × Bounded lean possible rest.free.bits
-less_to_do lean possible price task rest s gained many e left m b =
-    subst (λ (r : Task). (r.extracts < many) × Bounded lean possible r.free.bits) (sym e) (
-      omega (arith, left, m),
-      bounded_part lean possible task.free.bits (without task.free.bits s) (contains_without task.free.bits s) b,
-    )
-
 -- ---- answers without a trial
 
 module _ (lean price : ℕ → ℕ) (task : Task) where
-  pub all_met : task.unmet ≡ 0 → Decides true (ServableFrom lean price task)
+  pub all_met : task.unmet ≡ 0 → Decides (eqb task.unmet 0) (ServableFrom lean price task)
   all_met e =
-      granted (ServableFrom lean price task) (nothing_unmet lean price task.extracts task.free.bits task.unmet task.cost e)
+      let met = granted (ServableFrom lean price task) (nothing_unmet lean price task.extracts task.free.bits task.unmet task.cost e) in
+      rw (eq-eqb task.unmet 0 e) met
 
   module _ (some : task.unmet ≡ 0 → ⊥) where
-    pub none_left : task.extracts ≡ 0 → Decides false (ServableFrom lean price task)
+    pub none_left : task.extracts ≡ 0 → Decides (eqb task.unmet 0) (ServableFrom lean price task)
     none_left e =
-        refused (ServableFrom lean price task) λ v.
+        let unmet = refused (ServableFrom lean price task) λ v.
         some (no_set_left lean price task.free.bits task.unmet task.cost
-        (subst (λ (most : ℕ). Servable lean price most task.free.bits task.unmet task.cost) e v))
+        (subst (λ (most : ℕ). Servable lean price most task.free.bits task.unmet task.cost) e v)) in
+        rw (ne_eqb task.unmet 0 some) unmet
 
     pub not_possible : (possible : ℕ → ℕ) → task.free.bits < 2 ^ 16 → task.unmet < 2 ^ 16 → Bounded lean possible task.free.bits
         → (bit_and (possible task.free.bits) task.unmet ≡ task.unmet → ⊥) → Decides false (ServableFrom lean price task)
@@ -94,19 +88,14 @@ module _ (lean price : ℕ → ℕ) (task : Task) (wanted : ℕ) where
             t.none_above n;
       }
 
-  pub suitable_payable : (s : ℕ) → (contains (lean s) wanted && leb (price s) task.cost) ≡ true → price s ≤ task.cost
-  suitable_payable s e = leb-true (price s) task.cost (and_parts (contains (lean s) wanted) (leb (price s) task.cost) e).1
-
   -- a set that does not suit would not do; nor one that leaves what can't be served
   pub not_suitable : (s : ℕ) → (contains (lean s) wanted && leb (price s) task.cost) ≡ false → Will s → ⊥
   not_suitable s e w =
       holds_fails (contains (lean s) wanted && leb (price s) task.cost)
       (and_both (contains (lean s) wanted) (leb (price s) task.cost) w.meets (le-leb (price s) task.cost w.payable)) e
 
-  pub not_served : (s : ℕ) (rest : Task) → rest ≡ left_after price task s (lean s) → (found : Bool) → Decides found (ServableFrom lean price rest)
-      → found ≡ false → Will s → ⊥
-  not_served s rest l found d e w =
-      denied (ServableFrom lean price rest) found d e (subst (λ (r : Task). ServableFrom lean price r) (sym l) w.rest)
+  pub not_served : (s : ℕ) (rest : Task) → rest ≡ left_after price task s (lean s) → (ServableFrom lean price rest → ⊥) → Will s → ⊥
+  not_served s rest l n w = n (subst (λ (r : Task). ServableFrom lean price r) (sym l) w.rest)
 
   -- ---- the answer
 
@@ -115,19 +104,19 @@ module _ (lean price : ℕ → ℕ) (task : Task) (wanted : ℕ) where
 
   pub found_one : (task.extracts ≡ 0 → ⊥) → (s : ℕ) → Inside task.free.bits s
       → (contains (lean s) wanted && leb (price s) task.cost) ≡ true → (rest : Task) → rest ≡ left_after price task s (lean s)
-      → (found : Bool) → Decides found (ServableFrom lean price rest) → found ≡ true → Decides found (ServableFrom lean price task)
-  found_one left s i e rest l found d f =
+      → ServableFrom lean price rest → Decides true (ServableFrom lean price task)
+  found_one left s i e rest l v =
       let p = and_parts (contains (lean s) wanted) (leb (price s) task.cost) e in
       let w : Will s =
       record {
         inside = i;
         meets = p.0;
         payable = leb-true (price s) task.cost p.1;
-        rest = subst (λ (r : Task). ServableFrom lean price r) l (d.sound f);
+        rest = subst (λ (r : Task). ServableFrom lean price r) l v;
       } in
-      subst (λ (b : Bool). Decides b (ServableFrom lean price task)) (sym f) (granted (ServableFrom lean price task)
+      granted (ServableFrom lean price task)
       (subst (λ (most : ℕ). Servable lean price most task.free.bits task.unmet task.cost) (some_left_lem left)
-      (suits_served lean price (task.extracts - 1) task.free.bits task.unmet task.cost wanted s w)))
+      (suits_served lean price (task.extracts - 1) task.free.bits task.unmet task.cost wanted s w))
 
   pub found_none : (task.unmet ≡ 0 → ⊥) → (task.extracts ≡ 0 → ⊥) → lean 0 ≡ 0 → wanted < 2 ^ 16 → Wanted task.extracts task.unmet wanted
       → Tried 0 → Decides false (ServableFrom lean price task)

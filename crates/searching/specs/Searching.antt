@@ -3,7 +3,7 @@ use Rattle.std.specs.Prelude.{◌≡◌, ◌⊎◌, true, List, ℕ, ◌+◌, �
 use Rattle.rules.specs.Lists.{written}
 use Rattle.rules.specs.Sets.{has, without}
 use Rattle.searching.specs.Serving.{Serves, Servable, Least, First, Completes}
-use Rattle.searching.specs.declared.serve.Task.{Task}
+use Rattle.searching.specs.declared.task.Task.{Task}
 
 -- the task can be done
 abbrev pub ServableFrom : (gain price : ℕ → ℕ) → Task → Type 0
@@ -22,11 +22,6 @@ left_after price task s gained =
 -- the needs that a set must meet to be tried: all of them if it is the last, else any one
 abbrev pub Wanted : ℕ → ℕ → ℕ → Type 0
 Wanted extracts unmet wanted = ((extracts ≡ 1) × (wanted ≡ unmet)) ⊎ ((k : ℕ) × (k < 8) × (has k unmet ≡ true) × (wanted ≡ 2 ^ k))
-
--- the one found so far, or the further need if that is unmet; 8 is none
-pub record Rarer (unmet found need rarer : ℕ) : Type 0 where
-  pub either : (rarer ≡ found) ⊎ ((rarer ≡ need) × (has need unmet ≡ true))
-  pub some : has need unmet ≡ true → rarer < 8
 
 -- the set is the next of a best list
 abbrev pub Next : (gain price : ℕ → ℕ) → Task → ℕ → Type 0

@@ -2,7 +2,7 @@
 use native.Mathlib.Omega.{arith}
 use Rattle.rules.specs.Numbers.{Numbers}
 use Rattle.job.specs.Given.{given}
-use Rattle.planner.proofs.Answers.{plans_not_fit, plans_no_room, sound, few, few_needs_lem, empty_gains_nothing, plans_none, plans_all}
+use Rattle.planner.proofs.Answers.{plans_not_fit, plans_no_room, sound, few, few_needs_lem, empty_gains_nothing, plans_best}
 use Rattle.std.proofs.Common.{rules}
 use Rattle.planner.proofs.plan.Goals as goal
 
@@ -27,8 +27,8 @@ gains-requires c =
     let job = c.in-Some.job in
     (sound q c.args.extracts.now job c.in-Some.ensures, search rules)
 
-pub best-count-requires : goal.best-count-requires
-best-count-requires c =
+pub best-requires : goal.best-requires
+best-requires c =
     let q : Numbers = given c.args.numbers in
     let job = c.in-Some.job in
     let old = c.args.extracts.now in
@@ -39,18 +39,8 @@ best-count-requires c =
       empty_gains_nothing q old job c.in-Some.ensures c.if-extracts-lt-MOST_EXTRACTS.false c.gains.new.table c.gains.ensures.told,
     )
 
-pub returns-then-needs-count : goal.returns-then-needs-count
-returns-then-needs-count c =
-    let q : Numbers = given c.args.numbers in
-    let job = c.in-Some.job in
-    let best = c.best-count in
-    plans_none q c.args.extracts.now job c.in-Some.ensures c.if-extracts-lt-MOST_EXTRACTS.false c.gains.new.table
-    c.gains.ensures.told best.result best.new.extracts best.ensures c.if-needs-count.true
-
 pub returns : goal.returns
 returns c =
-    let q : Numbers = given c.args.numbers in
-    let job = c.in-Some.job in
-    let best = c.best-count in
-    plans_all q c.args.extracts.now job c.in-Some.ensures c.if-extracts-lt-MOST_EXTRACTS.false c.gains.new.table
-    c.gains.ensures.told best.result best.new.extracts best.ensures c.if-needs-count.false
+    rw c.ok_or.ensures.value
+    (plans_best (given c.args.numbers) c.args.extracts.now c.in-Some.job c.in-Some.ensures c.if-extracts-lt-MOST_EXTRACTS.false c.gains.new.table
+    c.gains.ensures.told c.best.result c.best.new.extracts c.best.ensures.near c.best.ensures.searched)

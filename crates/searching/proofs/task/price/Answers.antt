@@ -1,6 +1,6 @@
--- `searching::serve::price` meets its contract. Assumes nothing.
+-- `searching::task::price` meets its contract. Assumes nothing.
 use Rattle.searching.specs.Prices.{price_of}
-use Rattle.searching.proofs.serve.price.Goals as goal
+use Rattle.searching.proofs.task.price.Goals as goal
 
 pub returns : goal.returns
 unfolding price_of
