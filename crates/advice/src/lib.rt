@@ -2,7 +2,7 @@
 #![tactic(auto)]
 
 use job::refusals::Refusal;
-use position::position_of;
+use position::{Spot, position_of};
 use remedy::{put_located, put_remedy};
 use writing::Page;
 
@@ -42,7 +42,12 @@ fn put_sentence(page: &mut Page, text: &[u8], number: u16, place: usize)
         Ok(refusal) => {
             let position = position_of(text, place);
             put_located(page, position);
-            put_remedy(page, text, refusal, place, position);
+            let spot = Spot {
+                text,
+                place,
+                position,
+            };
+            put_remedy(page, spot, refusal);
         }
     }
 }

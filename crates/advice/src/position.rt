@@ -12,6 +12,14 @@ pub struct Position {
     pub column: usize,
 }
 
+// A place of a text, with its position.
+#[derive(Clone, Copy)]
+pub struct Spot<'a> {
+    pub text: &'a [u8],
+    pub place: usize,
+    pub position: Position,
+}
+
 // The position of a place; a place past the end is the end.
 pub fn position_of(text: &[u8], place: usize) -> Position
     ensures { position_in result ≡ position_of text.now place }

@@ -4,13 +4,18 @@ ghost use Rattle.rules.specs.Signs.{bytes};
 ghost use Rattle.advice.specs.Positions.{position_in};
 ghost use Rattle.advice.specs.Sentences.{too_many_words};
 
-use crate::position::Position;
+use crate::position::Spot;
 use naming::sections::{Section, key_stands};
 
 // What there is too many of, and what to do. Columns stand in the first line, and at the beginning of another line the line itself is too many.
-pub fn too_many_words(text: &[u8], place: usize, position: Position) -> &'static [u8]
-    ensures { result.now ≡ bytes (too_many_words text.now place (position_in position)) }
+pub fn too_many_words(spot: Spot) -> &'static [u8]
+    ensures { result.now ≡ bytes (too_many_words spot.entry.text.now spot.entry.place (position_in spot.entry.position)) }
 {
+    let Spot {
+        text,
+        place,
+        position,
+    } = spot;
     if position.line == 1 {
         return b"this is the 17th column, and 16 are the most; leave out a column that no line names.\n";
     }
