@@ -7,6 +7,7 @@ use native.Mathlib.Omega.{arith}
 use lib.Dec.{ltb}
 use lib.ListN.{length, take, replicate, length-replicate, length-map}
 use borrow.Author.Tests.{ltb-false, lt-ltb, le-ltb}
+use Rattle.std.specs.Prelude.{Result, Ok, Err}
 use Rattle.rules.specs.Lists.{written}
 use Rattle.rules.specs.Numbers.{Numbers}
 use Rattle.rules.specs.Refusals.{slice_too_short}
@@ -25,15 +26,24 @@ use Rattle.rules.proofs.SheetNames.{names_short, names_nonzero}
 use Rattle.rules.proofs.Pages.{HasJob, OutcomeWay, is_refused_lem, none_correct, is_released, outcome_ways, page_fits}
 use Rattle.job.specs.Records.{numbers_in}
 use Rattle.job.proofs.Records.{fit_numbers}
+use Rattle.job.specs.Refusals.{number_of}
+use Rattle.job.specs.declared.refusals.Refusal.{Refusal}
+use Rattle.job.specs.declared.refusals.Refusal.TheVariants.{TextTooLong, TextNotOfForm, TooMany, NameTwice, NameUnknown, EndNumberOther}
+use Rattle.job.specs.declared.refusals.Refusal.TheVariants.{NumbersUnfit, SliceTooShort, NoCorrectSplit}
+use Rattle.job.specs.declared.refusals.Fault.{Fault}
+use Rattle.writing.specs.Added.{Adds}
+use Rattle.writing.specs.Puts.{Puts}
+use Rattle.writing.specs.declared.Page.{Page}
 use Rattle.text.specs.declared.JobRead.{JobRead}
-use Rattle.text.specs.Promises.{read_of, Takes}
+use Rattle.text.specs.Promises.{Answer as JobTold, read_of, Takes, in_numbers as told}
 use Rattle.text.proofs.Promises.{some_reading}
-use Rattle.planner.specs.declared.Planned.{Planned}
-use Rattle.planner.specs.Promises.{planned_of, Plans}
-use Rattle.report.specs.declared.Reported.{Reported}
-use Rattle.report.specs.Naming.{Named}
-use Rattle.report.specs.Taken.{Filled}
-use Rattle.report.specs.Promises.{reported_of, Prints, Reports}
+use Rattle.planner.specs.Promises.{Planned, planned_of, Plans, in_numbers as plan_numbers}
+use Rattle.report.specs.Naming.{Named, PutsNamed}
+use Rattle.report.specs.Taken.{Filled, Comes}
+use Rattle.report.specs.declared.Split.{Split as SplitNamed}
+use Rattle.report.specs.Promises.{Reported, reported_of, Prints, ended, Ends, Reports}
+use Rattle.report.proofs.NamesListed.{named_puts}
+use Rattle.report.proofs.Printing.{prints}
 
 -- a page that is too short for a longest one
 pub reports_short : (s old : List ℕ) → length old < most_page_bytes → Reports s old (reported_of (refused slice_too_short 0) 0) old
@@ -51,7 +61,27 @@ reports_whole {s} {w} {o} {old} {new} {r} reads e h p =
     let whole : min (length (page o)) (length old) ≡ length (page o) = omega (arith, fits, h) in
     record { reading = w; reads = reads; answered = rw (room, e) (p.answered ∙ ap (reported_of o) whole); printed = rw (room, e) p.printed }
 
-module _ {s : List ℕ} {t : JobRead} (a : Takes s t) where
+-- so does the page of what a text comes to, put on it from its first place on
+pub reports_put : {s : List ℕ} {w : Reading} (result : Result (Unit {0}) Fault) {old new : List ℕ} {bytes : ℕ} → Reads s w
+    → ((n : ℕ) → ended result n ≡ reported_of (outcome_of w) n) → most_page_bytes ≤ length old → Adds (page (outcome_of w)) 0 old bytes new
+    → Reports s old (ended result bytes) new
+reports_put {w = w} result {old} {new} {bytes} reads ends h a = rw (ends bytes) (reports_whole reads refl h (prints (outcome_of w) old bytes new a))
+
+-- ---- what reading and planning come to
+
+-- no refusal has number 0
+pub refusal_some : (r : Refusal) → number_of r ≡ 0 → ⊥
+refusal_some TextTooLong e = omega arith
+refusal_some TextNotOfForm e = omega arith
+refusal_some TooMany e = omega arith
+refusal_some NameTwice e = omega arith
+refusal_some NameUnknown e = omega arith
+refusal_some EndNumberOther e = omega arith
+refusal_some NumbersUnfit e = omega arith
+refusal_some SliceTooShort e = omega arith
+refusal_some NoCorrectSplit e = omega arith
+
+module _ {s : List ℕ} {t : JobTold} (a : Takes s t) where
   -- a text that is not read comes to its refusal
   pub not_read : (t.refusal ≡ 0 → ⊥) → outcome_of a.reading ≡ refused t.refusal t.place
   unfolding outcome_of
@@ -59,7 +89,7 @@ module _ {s : List ℕ} {t : JobRead} (a : Takes s t) where
     where
       go : (w : Reading) → t ≡ read_of w → outcome_of w ≡ refused t.refusal t.place
       go (unread number place) e = rw e
-      go (taken q names) e = absurd (n (ap (λ (x : JobRead). x.refusal) e))
+      go (taken q names) e = absurd (n (ap (λ (x : JobTold). x.refusal) e))
 
   module _ (z : t.refusal ≡ 0) where
     pub has_job : HasJob s a.reading
@@ -67,7 +97,7 @@ module _ {s : List ℕ} {t : JobRead} (a : Takes s t) where
       where
         go : {o : Outcome} → OutcomeWay s a.reading o → HasJob s a.reading
         go (is_refused_lem number place e b) =
-            let known : t.refusal ≡ number = ap (λ (x : JobRead). x.refusal) (a.answered ∙ ap read_of e) in
+            let known : t.refusal ≡ number = ap (λ (x : JobTold). x.refusal) (a.answered ∙ ap read_of e) in
             absurd (omega (arith, (refused_numbers b).0, known, z))
         go (none_correct job e) = job
         go (is_released job split e) = job
@@ -81,7 +111,7 @@ module _ {s : List ℕ} {t : JobRead} (a : Takes s t) where
         record {
           numbers = numbers_of has_job.sheet;
           fit = fit_of_job (numbers_of has_job.sheet) has_job.job has_job.known;
-          holds = ap (λ (x : JobRead). x.job) answer;
+          holds = ap (λ (x : JobTold). x.job) answer;
         }
 
     -- its names stand in the table
@@ -90,7 +120,7 @@ module _ {s : List ℕ} {t : JobRead} (a : Takes s t) where
     named =
         let sheet = has_job.sheet in
         record {
-          held = ap (λ (x : JobRead). x.names) answer;
+          held = ap (λ (x : JobTold). x.names) answer;
           few = rw (length-map sheet.columns (λ x. x.name)) (counts s sheet has_job.form has_job.right).few_columns;
           short = names_short s sheet has_job.form;
           nonzero = names_nonzero s sheet has_job.form;
@@ -102,7 +132,7 @@ module _ {s : List ℕ} {t : JobRead} (a : Takes s t) where
 
       numbers : numbers_in t.job ≡ numbers_of has_job.sheet
       numbers =
-          ap (λ (x : JobRead). numbers_in x.job) answer
+          ap (λ (x : JobTold). numbers_in x.job) answer
           ∙ fit_numbers (numbers_of has_job.sheet) (fit_of_job (numbers_of has_job.sheet) has_job.job has_job.known)
 
       abbrev ways : Planning
@@ -172,6 +202,45 @@ module _ {s : List ℕ} {t : JobRead} (a : Takes s t) where
           = ap (λ (k : ℕ). take k new) (count x) ∙ ap (take (length x.split)) (extracts x)
           ∙ take_written x.split room (omega (arith, x.few, long)) in
           outcome ∙ ap (planned_with (names_of has_job.sheet)) x.is ∙ ap (released (names_of has_job.sheet)) (sym all)
+
+-- ---- what a text comes to
+
+-- a text that is not read
+pub comes_unread : {s : List ℕ} {fault : Fault} → Takes s (told (Err fault)) → Comes s (Err fault)
+comes_unread {fault} a = record { reading = a.reading; reads = a.reads; outcome = not_read a (refusal_some fault.refusal) }
+
+module _ {s : List ℕ} {read : JobRead} (a : Takes s (told (Ok read))) {new : List ℕ} where
+  -- one whose job is not planned
+  pub comes_unplanned : {refusal : Refusal} → Plans (numbers_in read.job) (replicate plan_room 0) (plan_numbers (Err refusal)) new
+      → Comes s (Err (record { refusal = refusal; place = 0 }))
+  comes_unplanned {refusal} p = record { reading = a.reading; reads = a.reads; outcome = not_planned a refl p (refusal_some refusal) }
+
+  -- and one whose job is
+  pub comes_planned : {count : ℕ} → Plans (numbers_in read.job) (replicate plan_room 0) (plan_numbers (Ok count)) new
+      → Comes s (Ok (record { names = read.names; extracts = new; count = count }))
+  comes_planned p =
+      record {
+        reading = a.reading;
+        reads = a.reads;
+        outcome = record {
+          names = names_of (has_job a refl).sheet;
+          named = named a refl;
+          few = count_within a refl p refl;
+          is = planned_released a refl p refl;
+        };
+      }
+
+-- its page is that of a split
+pub ends_released : {s : List ℕ} {split : SplitNamed} {before after : Page} (k : Comes s (Ok split))
+    → PutsNamed split.names (λ names. page (released names (take split.count split.extracts))) before after → Ends s (Ok tt) before after
+ends_released k p =
+    let o = k.outcome in
+    record { reading = k.reading; reads = k.reads; ends = λ bytes. rw o.is; puts = rw o.is (named_puts p o.names o.named) }
+
+-- or that of a refusal
+pub ends_refused : {s : List ℕ} {fault : Fault} {before after : Page} (k : Comes s (Err fault))
+    → Puts (page (refused (number_of fault.refusal) fault.place)) before after → Ends s (Err fault) before after
+ends_refused k p = record { reading = k.reading; reads = k.reads; ends = λ bytes. rw k.outcome; puts = rw k.outcome p }
 
 -- ---- what a caller has
 

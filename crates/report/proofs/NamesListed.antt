@@ -1,5 +1,5 @@
--- The names of an extract line, put byte by byte and name by name. Assumes nothing.
-use mathlib.Core.Path.{◌≡◌, refl, ap, ◌∙◌}
+-- Bytes that names of a table make, put one after the other; and the names of an extract line, byte by byte and name by name. Assumes nothing.
+use mathlib.Core.Path.{◌≡◌, refl, sym, ap, ◌∙◌}
 use mathlib.Core.Bool.{Bool, true, false, ◌&&◌}
 use mathlib.Core.List.{List, [], ◌∷◌, ◌++◌, append-nil}
 use Prim.Native.Nat.{ℕ, ◌+◌, ◌*◌, ◌≤◌, ◌<◌}
@@ -8,6 +8,7 @@ use native.Mathlib.Numerals.{add-one}
 use native.Mathlib.Omega.{arith}
 use lib.Dec.{ltb, leb}
 use lib.ListN.{length, get_or, take, get_or-eq_default}
+use lib.Seq.{take-suc, take_all}
 use borrow.Author.Tests.{ltb-true, leb-true}
 use Rattle.rules.specs.Lists.{every, keep, up_from}
 use Rattle.rules.specs.Sets.{has, members, most_columns}
@@ -17,10 +18,36 @@ use Rattle.rules.proofs.Lists.{and_parts, every_in, get_d_in}
 use Rattle.rules.proofs.ListTests.{keep_append}
 use Rattle.rules.proofs.Counting.{up_from_last}
 use Rattle.rules.proofs.Pages.{joined_names_one, joined_names_more}
-use Rattle.writing.specs.Added.{Adds}
-use Rattle.writing.proofs.Adding.{adds_nothing, adds_both, adds_next, adds_all}
+use Rattle.writing.specs.Puts.{Puts}
+use Rattle.writing.specs.declared.Page.{Page}
+use Rattle.writing.proofs.Adding.{adds_nothing, adds_both}
 use Rattle.text.proofs.NamesBack.{table_byte}
-use Rattle.report.specs.Naming.{Named, parted}
+use Rattle.report.specs.Naming.{Named, parted, PutsNamed}
+
+-- ---- bytes that the names make
+
+module _ {table : List ℕ} where
+  pub named_nothing : {page : Page} → PutsNamed table (λ names. []) page page
+  named_nothing {page} = record { same_reference = refl; adds = λ names is. adds_nothing page.end page.places.now }
+
+  -- bytes for which no name is needed
+  pub named_put : {more : List ℕ} {before after : Page} → Puts more before after → PutsNamed table (λ names. more) before after
+  named_put p = record { same_reference = p.same_reference; adds = λ names is. p.adds }
+
+  -- one thing is put and then another
+  pub named_both : {first second : List (List ℕ) → List ℕ} {before between after : Page} → PutsNamed table first before between
+      → PutsNamed table second between after → PutsNamed table (λ names. first names ++ second names) before after
+  named_both a b = record { same_reference = b.same_reference ∙ a.same_reference; adds = λ names is. adds_both (a.adds names is) (b.adds names is) }
+
+  -- the same bytes for all names that the table holds
+  pub named_as : {one other : List (List ℕ) → List ℕ} {before after : Page} → PutsNamed table one before after
+      → ((names : List (List ℕ)) → Named table names → other names ≡ one names) → PutsNamed table other before after
+  named_as a e = record { same_reference = a.same_reference; adds = λ names is. rw (e names is) (a.adds names is) }
+
+  -- those of the names that it holds
+  pub named_puts : {more : List (List ℕ) → List ℕ} {before after : Page} → PutsNamed table more before after → (names : List (List ℕ))
+      → Named table names → Puts (more names) before after
+  named_puts a names is = record { same_reference = a.same_reference; adds = a.adds names is }
 
 -- ---- a name
 
@@ -67,20 +94,31 @@ module _ {table : List ℕ} {names : List (List ℕ)} (is : Named table names) (
         go (yes l) = absurd (omega (arith, byte_some i l, name_byte, z))
         go (no m) = omega (arith, m)
 
+    -- the bytes before it and then one that is not 0
+    next_byte : (sign ≡ 0 → ⊥) → take (i + 1) (get_or names c []) ≡ take i (get_or names c []) ++ (sign ∷ [])
+    next_byte n = rw (add-one, take-suc (get_or names c []) i 0 (within_name n), name_byte)
+
+  -- behind 12 bytes it has ended
+  whole_name : {i : ℕ} → most_name_bytes ≤ i → get_or names c [] ≡ take i (get_or names c [])
+  whole_name {i} h = sym (take_all i (get_or names c []) (omega (arith, h, name_short)))
+
+-- the first i bytes of a column's name are put
+abbrev pub Spelt : List ℕ → ℕ → ℕ → Page → Page → Type 0
+Spelt table c i = PutsNamed table (λ names. take i (get_or names c []))
+
+module _ {table : List ℕ} (c i : ℕ) {before between : Page} (a : Spelt table c i before between) where
+  -- behind 12 bytes it is the whole name
+  pub name_full_lem : most_name_bytes ≤ i → PutsNamed table (λ names. get_or names c []) before between
+  name_full_lem h = named_as a λ names is. whole_name is c h
+
+  module _ {sign : ℕ} (few : i < most_name_bytes) (here : sign ≡ get_or table (most_name_bytes * c + i) 0) where
     -- a byte that is not 0 belongs to it
-    pub name_more : (sign ≡ 0 → ⊥) → {at middle last : ℕ} {page between new : List ℕ} → Adds (take i (get_or names c [])) at page middle between
-        → Adds (sign ∷ []) middle between last new → Adds (take (i + 1) (get_or names c [])) at page last new
-    name_more n a b = adds_next (get_or names c []) i _ _ _ _ _ _ (within_name n) a (rw (← name_byte) b)
+    pub name_more : (sign ≡ 0 → ⊥) → {after : Page} → Puts (sign ∷ []) between after → Spelt table c (i + 1) before after
+    name_more n b = named_as (named_both a (named_put b)) λ names is. next_byte is c few here n
 
     -- at a 0 it ends
-    pub name_ends : sign ≡ 0 → {at last : ℕ} {page new : List ℕ} → Adds (take i (get_or names c [])) at page last new
-        → Adds (get_or names c []) at page last new
-    name_ends z a = adds_all (get_or names c []) i _ _ _ _ (behind_name z) a
-
-  -- behind 12 bytes too
-  pub name_full_lem : {i : ℕ} → most_name_bytes ≤ i → {at last : ℕ} {page new : List ℕ} → Adds (take i (get_or names c [])) at page last new
-      → Adds (get_or names c []) at page last new
-  name_full_lem {i} h a = adds_all (get_or names c []) i _ _ _ _ (omega (arith, h, name_short)) a
+    pub name_ends : sign ≡ 0 → PutsNamed table (λ names. get_or names c []) before between
+    name_ends z = named_as a λ names is. sym (take_all i (get_or names c []) (behind_name is c few here z))
 
 -- ---- the names of a set
 
@@ -118,58 +156,44 @@ some_last : (columns : List ℕ) (k : ℕ) → false ≡ none_of (columns ++ (k 
 some_last [] k = refl
 some_last (c ∷ columns) k = refl
 
--- after the columns below one: their names are put, whatever the table's names are
-pub record Listed (table : List ℕ) (s : ℕ) (at : ℕ) (old : List ℕ) (first : Bool) (column next : ℕ) (new : List ℕ) : Type 0 where
-  pub few : column ≤ most_columns
-  pub long : length new ≡ length old
-  pub none : first ≡ none_of (seen s column)
-  pub adds : (names : List (List ℕ)) → Named table names → Adds (joined_names (names_at names (seen s column))) at old next new
+-- after the columns below one: their names are put, and this parts the next from them
+pub record Listed (table : List ℕ) (s : ℕ) (before : Page) (comma : List ℕ) (column : ℕ) (after : Page) : Type 0 where
+  pub parts : comma ≡ parted (none_of (seen s column))
+  pub puts : PutsNamed table (λ names. joined_names (names_at names (seen s column))) before after
 
-module _ {table : List ℕ} {s at : ℕ} {old : List ℕ} where
-  pub listed_none : Listed table s at old true 0 at old
+module _ {table : List ℕ} {s : ℕ} {before : Page} where
+  pub listed_none : Listed table s before [] 0 before
   unfolding up_from keep names_at joined_names
-  listed_none = record { few = omega arith; long = refl; none = refl; adds = λ names is. adds_nothing at old }
+  listed_none = record { parts = refl; puts = named_nothing }
 
-  module _ {first : Bool} {column next : ℕ} {new : List ℕ} (l : Listed table s at old first column next new) (more : column < most_columns) where
+  module _ {comma : List ℕ} {column : ℕ} {between : Page} (l : Listed table s before comma column between) where
     -- a column of the set
-    pub listed_next : {middle last : ℕ} {between after : List ℕ} → has column s ≡ true → length after ≡ length new
-        → Adds (parted first) next new middle between
-        → ((names : List (List ℕ)) → Named table names → Adds (get_or names column []) middle between last after)
-        → Listed table s at old false (column + 1) last after
+    pub listed_next : {middle after : Page} → has column s ≡ true → Puts comma between middle
+        → PutsNamed table (λ names. get_or names column []) middle after → Listed table s before (parted false) (column + 1) after
     unfolding keep
-    listed_next there long comma name =
+    listed_next there apart name =
         let seen_too : seen s (column + 1) ≡ seen s column ++ (column ∷ []) = seen_next s column ∙ rw there in
         record {
-          few = omega (arith, more);
-          long = long ∙ l.long;
-          none = rw seen_too (some_last (seen s column) column);
-          adds = λ names is.
+          parts = rw seen_too (ap parted (some_last (seen s column) column));
+          puts = named_as (named_both l.puts (named_both (named_put apart) name)) λ names is.
               rw (
                 seen_too,
                 names_at_next names (seen s column) column,
                 joined_names_next (names_at names (seen s column)) (get_or names column []),
                 names_at_none names (seen s column),
-                ← l.none,
-              )
-              (adds_both (l.adds names is) (adds_both comma (name names is)));
+                ← l.parts,
+              );
         }
 
     -- another column
-    pub listed_same : has column s ≡ false → Listed table s at old first (column + 1) next new
+    pub listed_same : has column s ≡ false → Listed table s before comma (column + 1) between
     unfolding keep
     listed_same lacks =
         let seen_none : seen s (column + 1) ≡ seen s column = seen_next s column ∙ rw lacks (append-nil (seen s column)) in
-        record {
-          few = omega (arith, more);
-          long = l.long;
-          none = rw seen_none l.none;
-          adds = λ names is. rw seen_none (l.adds names is);
-        }
+        record { parts = rw seen_none l.parts; puts = named_as l.puts λ names is. rw seen_none }
 
   -- after all columns
-  pub listed_all : {first : Bool} {column next : ℕ} {new : List ℕ} → Listed table s at old first column next new → most_columns ≤ column
-      → (names : List (List ℕ)) → Named table names → Adds (joined_names (names_at names (members s))) at old next new
+  pub listed_all : {comma : List ℕ} {column : ℕ} {after : Page} → Listed table s before comma column after → column ≡ most_columns
+      → PutsNamed table (λ names. joined_names (names_at names (members s))) before after
   unfolding members
-  listed_all {column = column} l h names is =
-      let all : column ≡ most_columns = omega (arith, h, l.few) in
-      rw all at (l.adds names is)
+  listed_all l all = rw all at l.puts

@@ -3,6 +3,7 @@ use mathlib.Core.Path.{◌≡◌, refl, sym, ap, subst, ◌∙◌}
 use mathlib.Core.Bool.{true, false}
 use mathlib.Core.List.{List}
 use mathlib.Core.Logic.{◌⊎◌, inl, inr, ◌↔◌}
+use Rattle.std.specs.Prelude.{Result, Ok, Err}
 use Rattle.rules.proofs.Options.{None, Some, some-injective}
 use Prim.Native.Nat.{ℕ, ◌≤◌, ◌<◌}
 use native.Mathlib.Decide.{dec_lt}
@@ -34,8 +35,13 @@ use Rattle.rules.proofs.Readings.{one_reading, reading_taken, refused_numbers}
 use Rattle.rules.proofs.Plannings.{planning_none, planning_planned}
 use Rattle.rules.proofs.Pages.{HasJob, OutcomeWay, is_refused_lem, none_correct, is_released, outcome_ways, page_fits}
 use Rattle.text.proofs.Promises.{some_reading}
-use Rattle.report.specs.declared.Reported.{Reported}
-use Rattle.report.specs.Promises.{reported_of, answer_of, page_after, Reports}
+use Rattle.job.specs.Refusals.{number_of}
+use Rattle.job.specs.declared.refusals.Refusal.{Refusal}
+use Rattle.job.specs.declared.refusals.Fault.{Fault}
+use Rattle.planner.proofs.Promises.{in_numbers-injective}
+use Rattle.report.specs.declared.Reported.{Reported as Answer}
+use Rattle.report.proofs.Answers.{refusal_some}
+use Rattle.report.specs.Promises.{Reported, refusal_in, place_in, in_numbers, reported_of, answer_of, page_after, Reports}
 
 -- two outcomes that the promise allows are equal
 pub one_report : {s old new after : List ℕ} {r t : Reported} → Reports s old r new → Reports s old t after → (r ≡ t) × (new ≡ after)
@@ -45,7 +51,35 @@ one_report {old} a b =
       a.printed ∙ ap (λ (w : Reading). page_after (outcome_of w) old) same ∙ sym b.printed,
     )
 
--- and there is one, whatever the text and the page lent
+-- ---- answers in numbers
+
+same_refusal : (r q : Refusal) → number_of r ≡ number_of q → r ≡ q
+same_refusal r q e =
+    let same : Err r ≡ Err q = in_numbers-injective (Err r) (Err q) (ap (λ (n : ℕ). record { refusal = n; count = 0 }) e) in
+    cc
+
+same_end : (a b : Result (Unit {0}) Fault) → refusal_in a ≡ refusal_in b → place_in a ≡ place_in b → a ≡ b
+same_end (Ok t) (Ok u) e h = refl
+same_end (Ok t) (Err g) e h = absurd (refusal_some g.refusal (sym e))
+same_end (Err f) (Ok u) e h = absurd (refusal_some f.refusal e)
+same_end (Err f) (Err g) e h =
+    ap (λ (r : Refusal). Err (record { refusal = r; place = f.place })) (same_refusal f.refusal g.refusal e)
+    ∙ ap (λ (p : ℕ). Err (record { refusal = g.refusal; place = p })) h
+
+-- no two answers have the same numbers
+pub answers-injective : (a b : Answer) → in_numbers a ≡ in_numbers b → a ≡ b
+answers-injective a b e =
+    ap (λ (o : Result (Unit {0}) Fault). record { outcome = o; length = a.length })
+    (same_end a.outcome b.outcome (ap (λ (x : Reported). x.refusal) e) (ap (λ (x : Reported). x.place) e))
+    ∙ ap (λ (n : ℕ). record { outcome = b.outcome; length = n }) (ap (λ (x : Reported). x.length) e)
+
+-- two answers that the promise allows are equal
+pub one_answer : {s old new after : List ℕ} {a b : Answer} → Reports s old (in_numbers a) new → Reports s old (in_numbers b) after → (a ≡ b) × (new ≡ after)
+one_answer {a = a} {b = b} x y = let one = one_report x y in (answers-injective a b one.0, one.1)
+
+-- ---- every input has an outcome
+
+-- whatever the text and the page lent
 pub some_report : (s old : List ℕ) → (r : Reported) × (new : List ℕ) × Reports s old r new
 some_report s old =
     let w = some_reading s in

@@ -4,6 +4,8 @@ use Rattle.rules.specs.Lists.{every}
 use Rattle.rules.specs.Sets.{most_columns}
 use Rattle.rules.specs.Signs.{comma}
 use Rattle.rules.specs.Names.{most_name_bytes}
+use Rattle.writing.specs.Added.{Adds}
+use Rattle.writing.specs.declared.Page.{Page}
 use Rattle.text.specs.Tables.{name_table}
 
 -- a table holds these names, as those of a text's columns are: few enough, each of 1 to 12 bytes, none of them 0
@@ -17,3 +19,8 @@ pub record Named (table : List ℕ) (names : List (List ℕ)) : Type 0 where
 abbrev pub parted : Bool → List ℕ
 parted true = []
 parted false = comma ∷ []
+
+-- whatever names the table holds, the bytes that they make are put behind what the page held, and it is still the page that was lent
+pub record PutsNamed (table : List ℕ) (more : List (List ℕ) → List ℕ) (before after : Page) : Type 0 where
+  pub same_reference : after.places.ghost_name ≡ before.places.ghost_name
+  pub adds : (names : List (List ℕ)) → Named table names → Adds (more names) before.end before.places.now after.end after.places.now

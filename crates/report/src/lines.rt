@@ -1,114 +1,91 @@
 // The lines of a page, each put behind those before it.
-ghost use Rattle.std.specs.Prelude.{List, [], ◌∷◌, ◌++◌, ℕ, get_or};
+ghost use Rattle.std.specs.Prelude.{[], ◌∷◌, ◌++◌, get_or};
 ghost use Rattle.rules.specs.Sets.{members};
 ghost use Rattle.rules.specs.Signs.{line_end};
 ghost use Rattle.rules.specs.Words.{decimal, keyed_line};
 ghost use Rattle.rules.specs.Pages.{refused, released, joined_names, names_at, extract_lines, page as page_of};
-ghost use Rattle.writing.specs.Added.{Adds};
-ghost use Rattle.report.specs.Naming.{Named, parted};
+ghost use Rattle.job.specs.Refusals.{number_of};
+ghost use Rattle.writing.specs.Puts.{Puts};
+ghost use Rattle.report.specs.Naming.{PutsNamed};
 
 use columns::ColumnSet;
+use job::refusals::Fault;
 use naming::signs::byte;
 use naming::words::MOST_NAME_BYTES;
-use writing::{put, put_byte, put_number};
+use writing::Page;
 
 // The name of a column, which ends at the first 0 of its row.
-fn put_name(page: &mut [u8], at: usize, names: &[u8], column: u16) -> usize
-    ensures { (columns : List (List ℕ)) → Named names.now columns
-        → Adds (get_or columns column []) at page.old result page.new }
+fn put_name(page: &mut Page, names: &[u8], column: u16)
+    ensures { PutsNamed names.now (λ columns. get_or columns column []) page.old page.new }
 {
     let from = MOST_NAME_BYTES * column as usize;
-    let mut end = at;
-    let mut i = 0;
-    while i < MOST_NAME_BYTES {
+    for i in 0..MOST_NAME_BYTES {
         let sign = byte(names, from + i);
         if sign == 0 {
-            return end;
+            return;
         }
-        end = put_byte(page, end, sign);
-        i += 1;
+        page.put_byte(sign);
     }
-    end
-}
-
-// A comma, unless the name behind it is the first of its line.
-fn put_comma(page: &mut [u8], at: usize, first: bool) -> usize
-    ensures { Adds (parted first) at page.old result page.new }
-{
-    if first {
-        return at;
-    }
-    put_byte(page, at, b',')
 }
 
 // The names of a set's columns, joined by commas.
-fn put_names(page: &mut [u8], at: usize, names: &[u8], set: u16) -> usize
-    ensures { (columns : List (List ℕ)) → Named names.now columns
-        → Adds (joined_names (names_at columns (members set))) at page.old result page.new }
+fn put_names(page: &mut Page, names: &[u8], set: u16)
+    ensures { PutsNamed names.now (λ columns. joined_names (names_at columns (members set))) page.old page.new }
 {
     let extract = ColumnSet { bits: set };
-    let mut end = at;
-    let mut first = true;
-    let mut column: u16 = 0;
-    while column < ColumnSet::MOST_COLUMNS {
+    // what parts a name from those before it
+    let mut comma: &[u8] = b"";
+    for column in 0..ColumnSet::MOST_COLUMNS {
         if extract.has(column) {
-            let from = put_comma(page, end, first);
-            end = put_name(page, from, names, column);
-            first = false;
+            page.put(comma);
+            put_name(page, names, column);
+            comma = b",";
         }
-        column += 1;
     }
-    end
 }
 
 // The line of an extract.
-fn put_extract(page: &mut [u8], at: usize, names: &[u8], set: u16) -> usize
-    ensures { (columns : List (List ℕ)) → Named names.now columns
-        → Adds (keyed_line "extract=" (joined_names (names_at columns (members set)))) at page.old result page.new }
+fn put_extract(page: &mut Page, names: &[u8], set: u16)
+    ensures { PutsNamed names.now (λ columns. keyed_line "extract=" (joined_names (names_at columns (members set)))) page.old page.new }
 {
-    let key = put(page, at, b"extract=");
-    let value = put_names(page, key, names, set);
-    put_byte(page, value, b'\n')
+    page.put(b"extract=");
+    put_names(page, names, set);
+    page.put_byte(b'\n');
 }
 
 // The lines of the extracts.
-fn put_extracts(page: &mut [u8], at: usize, names: &[u8], extracts: &[u16]) -> usize
-    ensures { (columns : List (List ℕ)) → Named names.now columns
-        → Adds (extract_lines columns extracts.now) at page.old result page.new }
+fn put_extracts(page: &mut Page, names: &[u8], extracts: &[u16])
+    ensures { PutsNamed names.now (λ columns. extract_lines columns extracts.now) page.old page.new }
 {
-    let mut end = at;
-    let mut i = 0;
-    while i < extracts.len() {
-        end = put_extract(page, end, names, extracts[i]);
-        i += 1;
+    for set in extracts {
+        put_extract(page, names, *set);
     }
-    end
 }
 
 // A line with a number.
-fn put_count(page: &mut [u8], at: usize, key: &[u8], count: usize) -> usize
-    ensures { Adds (key.now ++ (decimal count ++ (line_end ∷ []))) at page.old result page.new }
+fn put_count(page: &mut Page, key: &[u8], count: usize)
+    ensures { Puts (key.now ++ (decimal count ++ (line_end ∷ []))) page.old page.new }
 {
-    let value = put(page, at, key);
-    let end = put_number(page, value, count);
-    put_byte(page, end, b'\n')
+    page.put(key);
+    page.put_number(count);
+    page.put_byte(b'\n');
 }
 
 // The page of a split.
-pub fn put_split(page: &mut [u8], names: &[u8], extracts: &[u16]) -> usize
-    ensures { (columns : List (List ℕ)) → Named names.now columns
-        → Adds (page_of (released columns extracts.now)) 0 page.old result page.new }
+pub fn put_split(page: &mut Page, names: &[u8], extracts: &[u16])
+    ensures { PutsNamed names.now (λ columns. page_of (released columns extracts.now)) page.old page.new }
 {
-    let result = put(page, 0, b"result=split\n");
-    let count = put_count(page, result, b"extracts=", extracts.len());
-    put_extracts(page, count, names, extracts)
+    page.put(b"result=split\n");
+    put_count(page, b"extracts=", extracts.len());
+    put_extracts(page, names, extracts);
 }
 
 // The page of a refusal.
-pub fn put_refusal(page: &mut [u8], number: u16, place: usize) -> usize
-    ensures { Adds (page_of (refused number place)) 0 page.old result page.new }
+pub fn put_refusal(page: &mut Page, fault: Fault)
+    ensures { Puts (page_of (refused (number_of fault.refusal) fault.place)) page.old page.new }
 {
-    let result = put(page, 0, b"result=refused\n");
-    let first = put_count(page, result, b"number=", number as usize);
-    put_count(page, first, b"place=", place)
+    let number = u16::from(fault.refusal);
+    page.put(b"result=refused\n");
+    put_count(page, b"number=", number as usize);
+    put_count(page, b"place=", fault.place);
 }
