@@ -2,7 +2,7 @@
 use mathlib.Core.Path.{◌≡◌, refl, sym, ap, ◌∙◌}
 use mathlib.Core.Bool.{Bool, true, false}
 use mathlib.Core.List.{List, [], ◌∷◌}
-use Prim.Native.Nat.{ℕ, zero, suc, ◌+◌, ◌<◌, ◌≤◌}
+use Prim.Native.Nat.{ℕ, zero, suc, ◌+◌, ◌*◌, ◌/◌, ◌%◌, ◌^◌, ◌<◌, ◌≤◌}
 use native.Mathlib.Nat.{lt_of_not-le}
 use native.Mathlib.Numerals.{add-one}
 use native.Mathlib.Omega.{arith}
@@ -10,10 +10,10 @@ use lib.Dec.{ltb, leb, eqb}
 use lib.ListN.{length}
 use borrow.Author.Count.{below_more}
 use borrow.Author.Tests.{leb-true, leb-false, eqb-true, eq-eqb}
-use Rattle.rules.specs.Lists.{every}
+use Rattle.rules.specs.Lists.{every, up_from}
 use Rattle.rules.specs.Signs.{byte_at, Says, says_all, says_byte}
-use Rattle.rules.proofs.Lists.{and_parts, and_both}
-use Rattle.naming.specs.Sections.{key_of, width_of, alike}
+use Rattle.rules.proofs.Lists.{and_parts, and_both, every_in, up_from_in}
+use Rattle.naming.specs.Sections.{key_of, width_of, packed, alike}
 use Rattle.naming.specs.declared.sections.Section.{Section}
 use Rattle.naming.proofs.AllSections.{order, same_order, each, each_pair, whenever, then_holds}
 
@@ -23,6 +23,15 @@ use Rattle.naming.proofs.AllSections.{order, same_order, each, each_pair, whenev
 pub key_bytes : (section : Section) → every (ltb 0) (key_of section) ≡ true
 unfolding every
 key_bytes section = each (λ a. every (ltb 0) (key_of a)) refl section
+
+-- a key's bytes can be taken out of its number, which has all of them
+pub packed_byte : (section : Section) (k : ℕ) → k < 8 → packed (key_of section) / 2 ^ (8 * k) % 256 ≡ byte_at (key_of section) k
+unfolding every up_from packed
+packed_byte section k h =
+    eqb-true _ _
+    (every_in (λ i. eqb (packed (key_of section) / 2 ^ (8 * i) % 256) (byte_at (key_of section) i))
+    (each (λ a. every (λ i. eqb (packed (key_of a) / 2 ^ (8 * i) % 256) (byte_at (key_of a) i)) (up_from 0 8)) refl section)
+    (up_from_in 0 8 k (omega arith) (omega arith)))
 
 -- k bytes stand from place p on that are the first ones of these
 abbrev pub Begun : List ℕ → ℕ → List ℕ → ℕ → Type 0

@@ -1,5 +1,5 @@
 -- The sections of a job text, each with the key that its lines begin with, and which of them the number at the end counts.
-use Rattle.std.specs.Prelude.{Bool, true, false, ◌&&◌, List, [], ◌∷◌, ℕ, zero, suc, eqb, length}
+use Rattle.std.specs.Prelude.{Bool, true, false, ◌&&◌, List, [], ◌∷◌, ℕ, zero, suc, ◌+◌, ◌*◌, eqb, length}
 use Rattle.rules.specs.Lists.{any_of}
 use Rattle.rules.specs.Signs.{byte_at, says_at, columns_key, forbid_key, need_key, end_key}
 use Rattle.naming.specs.declared.sections.Section.{Section}
@@ -15,6 +15,11 @@ key_of End = end_key
 -- how many they are
 abbrev pub width_of : Section → ℕ
 width_of section = length (key_of section)
+
+-- bytes as one number, the first one lowest
+unfoldable pub packed : List ℕ → ℕ
+packed [] = 0
+packed (b ∷ bytes) = b + 256 * packed bytes
 
 -- all sections, in their order
 abbrev pub sections : List Section
