@@ -10,7 +10,17 @@ use lib.Dec.{eqb}
 use lib.ListN.{length, take, drop, length-drop, get_or-eq_default}
 use lib.Seq.{get_or-drop}
 use borrow.Author.Tests.{eqb-true}
+use denote.Param.Members.{Mut}
+use denote.Ref.{Bor}
+use Rattle.std.specs.declared.iter.TakeWhile.{TakeWhile}
+use Rattle.std.specs.Fn.{CalledAt}
+use Rattle.std.specs.Iterator.{Drains}
+use Rattle.std.specs.Iterator.Adapters.{take_while_source, take_while_done, take_while_callee, take_while_steps}
 use Rattle.std.specs.List.{prefix_len}
+use Rattle.std.proofs.lemmas.Iterator.{YieldsList}
+use Rattle.std.proofs.lemmas.Iterator.Consumers.{count_from_yields_List}
+use Rattle.std.proofs.lemmas.Iterator.Search.{YieldsList-from_take_while}
+use Rattle.rules.specs.Options.{Option}
 use Rattle.std.specs.Cmp.Lexicographic.{pointwise}
 use Rattle.std.proofs.lemmas.Bool.{not-false}
 use Rattle.std.proofs.lemmas.List.Folds.{length-prefix_len}
@@ -18,6 +28,14 @@ use Rattle.std.proofs.lemmas.List.Sums.{prefix_len-le-length, prefix_len_passes,
 use Rattle.rules.specs.Signs.{byte_at, in_name, line_end}
 use Rattle.rules.specs.Names.{Run, beginning, name_at, same_name}
 use Rattle.naming.specs.Words.{is_sign, Skips, Ends}
+
+-- what `take_while` and `count` say of a list
+pub counted_while : {S A F : Type 0} {steps : S → Option A → S → Type 0} {v : A → ℕ} {s : TakeWhile S F} (g : Mut F (Bor A × Unit {0}) Bool)
+    (test : ℕ → Bool) {f : F} (rest : List ℕ) (r : ℕ) → ((xs : List A) × Drains (take_while_steps steps g) s xs × (r ≡ length xs))
+    → YieldsList steps v (take_while_source s) rest → take_while_callee s ≡ f → take_while_done s ≡ false
+    → ((x : A) (b : Bool) (q : F) → CalledAt g f x b q → (q ≡ f) × (b ≡ test (v x))) → r ≡ prefix_len test rest
+counted_while {s} g test rest r ran yields callee done calls =
+    count_from_yields_List s r ran (YieldsList-from_take_while g test yields callee done calls) ∙ length-prefix_len test rest
 
 module _ (test : ℕ → Bool) (s : List ℕ) (p : ℕ) where
   -- so many of them pass

@@ -1,20 +1,16 @@
 -- `naming::words::line_end` meets its contract. Assumes nothing.
-use mathlib.Core.Path.{◌≡◌, ◌∙◌}
+use mathlib.Core.Path.{◌≡◌}
 use Rattle.std.proofs.Common.{rules, tests}
 use Rattle.std.specs.List.{prefix_len}
 use Rattle.std.proofs.lemmas.Iterator.{YieldsList-from_slice}
-use Rattle.std.proofs.lemmas.Iterator.Consumers.{count_from_yields_List}
-use Rattle.std.proofs.lemmas.Iterator.Search.{YieldsList-from_take_while}
-use Rattle.std.proofs.lemmas.List.Folds.{length-prefix_len}
-use Rattle.naming.proofs.Fronts.{goes_on, line_ends}
+use Rattle.naming.proofs.Fronts.{counted_while, goes_on, line_ends}
 use Rattle.naming.proofs.words.line_end.Goals as goal
 
 pub returns : goal.returns
 returns c =
     let a = c.args in
     let rest = c.bytes_from.result.now in
+    let while = c.take_while.ensures in
     let many : c.count.result ≡ prefix_len goes_on rest =
-    count_from_yields_List c.take_while.result _ c.count.ensures.ran
-    (YieldsList-from_take_while _ goes_on (YieldsList-from_slice rest (cc)) c.take_while.ensures.closure c.take_while.ensures.done (λ x b q k. search (rules, tests)))
-    ∙ length-prefix_len goes_on rest in
+    counted_while _ goes_on rest _ c.count.ensures.ran (YieldsList-from_slice rest (cc)) while.closure while.done (λ x b q k. search (rules, tests)) in
     rw (many, c.bytes_from.ensures) (line_ends a.text.now a.at)
