@@ -1,12 +1,11 @@
 -- Bytes that stand somewhere, compared byte by byte. Assumes nothing.
 use mathlib.Core.Path.{◌≡◌, refl, sym, ◌∙◌}
 use mathlib.Core.List.{List}
-use Prim.Native.Nat.{ℕ, suc, ◌+◌, ◌<◌, ◌≤◌}
+use Prim.Native.Nat.{ℕ, ◌+◌, ◌≤◌}
 use native.Mathlib.Omega.{arith}
-use lib.ListN.{length, drop, drop_of_length-le}
-use lib.Seq.{drop-cons}
+use lib.ListN.{length, drop}
 use Rattle.rules.specs.Signs.{byte_at, Says, says_all, says_byte}
-use Rattle.rules.proofs.Signs.{inside, says_first}
+use Rattle.rules.proofs.Signs.{inside}
 
 -- past the end bytes of which the first is not 0 stand nowhere
 pub past_end : {s bytes : List ℕ} {p : ℕ} → length s ≤ p → (byte_at bytes 0 ≡ 0 → ⊥) → Says s p bytes → ⊥
@@ -21,23 +20,3 @@ pub record Matched (s bytes : List ℕ) (at i : ℕ) : Type 0 where
 -- before the first byte
 pub matched_none : (s bytes : List ℕ) (at : ℕ) → Matched s bytes at 0
 matched_none s bytes at = let e : at + 0 ≡ at = omega arith in record { whole = rw e (λ says. says); others = rw e (λ says. says) }
-
-module _ {s bytes : List ℕ} {at i : ℕ} (m : Matched s bytes at i) where
-  -- one byte more
-  pub matched_more : i < length bytes → byte_at s (at + i) ≡ byte_at bytes i → Matched s bytes at (i + 1)
-  matched_more h e =
-      let place : at + (i + 1) ≡ suc (at + i) = omega arith in
-      let next : i + 1 ≡ suc i = omega arith in
-      let parts = drop-cons bytes i 0 h in
-      record {
-        whole = rw (place, next) (λ says. m.whole (rw parts (says_byte e says)));
-        others = rw (place, next) (λ says. (says_first (rw parts at (m.others says))).1);
-      }
-
-  -- a byte that differs
-  pub matched_other : i < length bytes → (byte_at s (at + i) ≡ byte_at bytes i → ⊥) → Says s at bytes → ⊥
-  matched_other h n says = n (says_first (rw (drop-cons bytes i 0 h) at (m.others says))).0
-
-  -- all bytes
-  pub matched_all : length bytes ≤ i → Says s at bytes
-  matched_all h = m.whole (rw (drop_of_length-le bytes h) says_all)

@@ -27,16 +27,12 @@ pub fn stands(text: &[u8], at: usize, bytes: &[u8]) -> bool
     ensures there { result ≡ true → Says text.now at bytes.now }
     ensures missing { result ≡ false → (byte_at bytes.now 0 ≡ 0 → ⊥) → Says text.now at bytes.now → ⊥ }
 {
-    // so that the sum can't overflow; past the end no such bytes stand
-    if text.len() <= at {
-        return false;
-    }
-    for (i, expected) in bytes.iter().enumerate() {
-        if byte(text, at + i) != *expected {
-            return false;
-        }
-    }
-    true
+    // asked first, so that the sum can't overflow; past the end no such bytes stand
+    at < text.len()
+        && bytes
+            .iter()
+            .enumerate()
+            .all(|(i, expected)| byte(text, at + i) == *expected)
 }
 
 pub fn letter(sign: u8) -> bool
