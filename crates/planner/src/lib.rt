@@ -14,7 +14,7 @@ use job::refusals::Refusal;
 pub const MOST_EXTRACTS: usize = 8;
 
 // Writes the planner's split over the first places of the slice, which has 8 places or more, and answers how many extracts it has; a refusal
-// writes nothing.
+// writes nothing. The slice is C's, so the count stands beside it.
 pub fn plan(numbers: Numbers, extracts: &mut [u16]) -> Result<u16, Refusal>
     ensures { Plans (given numbers.entry) extracts.old (in_numbers result) extracts.new }
 {

@@ -24,8 +24,8 @@ impl Search<'_> {
         None
     }
 
-    // The least cost of so many sets, by halving: it lies from `low` to `high`. The middle is reached from `low`, so no sum wraps, whatever sets
-    // cost.
+    // The least cost of so many sets, by halving: it lies from `low` to `high`, and neither counts by one, so there is no range to go over. The
+    // middle is reached from `low`, so no sum wraps, whatever sets cost.
     pub fn cheapest(&self, extracts: u16) -> u32
         requires { Servable (in_table self.now.lean.now) price_of extracts self.now.task.free.bits self.now.task.unmet (price_of self.now.task.free.bits) }
         ensures { Cheapest (in_table self.now.lean.now) price_of extracts self.now.task.free.bits self.now.task.unmet result }

@@ -38,7 +38,7 @@ impl Search<'_> {
                 return set;
             }
         }
-        ColumnSet::EMPTY
+        ColumnSet::EMPTY // not reached, since a best list goes on with some set
     }
 
     // Writes the sets of the best list.
