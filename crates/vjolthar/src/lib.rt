@@ -10,6 +10,9 @@ use verdicts::Told;
 
 mod verdicts; // verdicts.rt: the judge's answer as numbers
 
+ghost use Rattle.std.specs.Prelude.{◌≡◌, []};
+ghost use Rattle.job.specs.Records.{no_job};
+ghost use Rattle.text.specs.Tables.{name_table};
 ghost use Rattle.growing.specs.Slices.{node_slices};
 ghost use Rattle.diagram.specs.Slices.{path_slices};
 ghost use Rattle.diagram.specs.Promises.{Draws, Lists};

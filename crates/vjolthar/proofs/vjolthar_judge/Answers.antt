@@ -4,4 +4,4 @@ use Rattle.vjolthar.specs.Verdicts.{told_of}
 use Rattle.vjolthar.proofs.vjolthar_judge.Goals as goal
 
 pub returns : goal.returns
-returns c = c.numbers_of-told.ensures ∙ ap told_of c.judge.ensures
+returns c = c.from-told.ensures ∙ ap told_of c.judge.ensures
