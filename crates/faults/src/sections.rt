@@ -10,7 +10,7 @@ use crate::walks::Lines;
 use naming::sections::{Section, next_line};
 
 // How many lines there are, and the place behind them.
-#[derive(Clone, Copy)]
+#[derive(Clone, Copy, Debug, PartialEq, Eq)]
 pub struct Walked {
     pub lines: usize,
     pub to: usize,
@@ -35,7 +35,7 @@ pub fn walk(text: &[u8], section: Section, from: usize) -> Walked
 }
 
 // Where the forbid lines, the need lines and the end line begin, and how many forbid and need lines there are.
-#[derive(Clone, Copy)]
+#[derive(Clone, Copy, Debug, PartialEq, Eq)]
 pub struct Places {
     pub forbids: usize,
     pub needs: usize,

@@ -60,8 +60,11 @@ module _ {s : List ℕ} {sheet : Sheet} (form : OfForm s sheet) (right : sheet_f
     sets_read f = f _ _ sheet.columns sheet.forbids (laid_columns form) few (forbid_rows form at) (counts s sheet form right).few_forbids
 
     -- and fill no more than 32 places
-    pub sets_few : {count : ℕ} {new : List ℕ} → SetsWritten sheet.columns sheet.forbids count new → count ≤ most_forbidden
-    sets_few w = omega (arith, w.many, (counts s sheet form right).few_forbids)
+    pub sets_few : {count : ℕ} {new : List ℕ}
+        → ((q to : ℕ) (columns : List Spot) (rows : List (Line (List Spot))) → Words s columns_from q columns → length columns ≤ most_columns
+        → Rows s forbid_key places.forbids to rows → length rows ≤ most_forbidden → SetsWritten columns rows count new)
+        → count ≤ most_forbidden
+    sets_few f = omega (arith, (sets_read f).many, (counts s sheet form right).few_forbids)
 
     -- all marks are read
     pub marks_read : {count : ℕ} {new : List ℕ}
@@ -70,8 +73,9 @@ module _ {s : List ℕ} {sheet : Sheet} (form : OfForm s sheet) (right : sheet_f
     marks_read f = f form.end_from sheet.needs (rw at.needs form.needs)
 
     -- and fill no more than 512 places
-    pub marks_few : {count : ℕ} {new : List ℕ} → MarksWritten s sheet.needs count new → count ≤ 512
-    marks_few w = omega (arith, w.many, room)
+    pub marks_few : {count : ℕ} {new : List ℕ}
+        → ((q : ℕ) (lines : List (Line Formula)) → NeedLines s places.needs q lines → MarksWritten s lines count new) → count ≤ 512
+    marks_few f = omega (arith, (marks_read f).many, room)
 
   -- the parts read are the numbers of the text's job
   numbers_read : {n many marked : ℕ} {sets marks : List ℕ} → n ≡ length sheet.columns → SetsWritten sheet.columns sheet.forbids many sets

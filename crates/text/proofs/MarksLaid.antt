@@ -110,9 +110,10 @@ module _ {s : List ℕ} {from place count : ℕ} {marks : List ℕ} (l : Laying 
     laying_asks =
         record { deep = most_brackets; to = here.ends; formula = here.says; stands = here.stands; fits = omega (arith, fits_here) }
 
-    module _ {r : Read} {new : List ℕ} (read : Marked s (list ors) (place + length need_key) count marks r new) (long : length new ≡ length marks) where
+    module _ {r : Read} {new : List ℕ} {before : ℕ} (width : before ≡ length need_key) (read : Marked s (list ors) (place + before) count marks r new)
+        (long : length new ≡ length marks) where
       wrote : Wrote s count here.ends here.says marks r new
-      wrote = read most_brackets here.ends here.says here.stands
+      wrote = read most_brackets here.ends here.says (rw width here.stands)
 
       -- there is a place for the end mark, and the line's end lies behind its beginning, within the text
       pub laying_room : (r.marked < length new) × (place < r.at) × (r.at < length s)

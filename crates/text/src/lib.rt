@@ -45,6 +45,7 @@ fn taken(text: &[u8]) -> JobRead
 {
     let places = sections(text);
     let table = table::name_table(text);
+    // there is no heap: the sets and the marks fill the first places of arrays
     let mut forbidden = [0u16; MOST_FORBIDDEN];
     let count = sets::forbidden_sets(text, places.forbids, &mut forbidden);
     let mut marks = [0u16; MOST_MARKS];

@@ -15,8 +15,9 @@ pub fn need_marks(text: &[u8], from: usize, marks: &mut [u16]) -> usize
         → MarksWritten text.now lines result marks.new }
 {
     let before = width(Section::Need);
-    let mut count: usize = 0;
+    let mut count = 0;
     let mut place = from;
+    // a line begins where the reader of the one before stopped, so no iterator gives the places
     while key_stands(text, Section::Need, place) {
         let read = or_list(text, place + before, marks, count);
         let last = read.marked;

@@ -10,15 +10,15 @@ ghost use Rattle.text.specs.Tables.{Tabled};
 use columns::ColumnSet;
 use faults::walks::Names;
 use naming::known::COLUMNS_FROM;
-use naming::signs::{byte, in_name};
-use naming::words::MOST_NAME_BYTES;
+use naming::words::{MOST_NAME_BYTES, name_at};
 
 const MOST_COLUMNS: usize = ColumnSet::MOST_COLUMNS as usize;
 
 // The names of 16 columns.
 pub const NAMES: usize = 192;
 
-// How many columns there are, and their names. Every place without a byte is 0.
+// How many columns there are, and their names. Every place without a byte is 0. There is no heap, and all the bytes are handed out to C, so the names
+// are an array with their number beside it.
 #[derive(Clone, Copy)]
 pub struct Table {
     pub columns: usize,
@@ -31,13 +31,10 @@ fn put_name(names: &mut [u8], from: usize, text: &[u8], at: usize)
     ensures { (p : ℕ) → Run text.now at p → p ≤ at + most_name_bytes
         → names.new ≡ take from names.old ++ written (piece text.now at p) (drop from names.old) }
 {
-    for i in 0..MOST_NAME_BYTES {
-        let sign = byte(text, at + i);
-        if !in_name(sign) {
-            return;
-        }
-        names[from + i] = sign;
-    }
+    let name = name_at(text, at);
+    // a name of a text of the form has no more bytes
+    let count = name.len().min(MOST_NAME_BYTES);
+    names[from..from + count].copy_from_slice(&name[..count]);
 }
 
 // The columns of a text that has no more than 16.

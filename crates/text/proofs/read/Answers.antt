@@ -23,9 +23,6 @@ returns-in_err-first_fault c =
     (fault_takes whole.0 c.in_err-first_fault.field-0.0 (omega (arith, c.if-text-gt-MOST_BYTES.false)) whole.1
     (c.in_err-first_fault.ensures whole.0 whole.1))
 
-pub taken-requires : goal.taken-requires
-taken-requires c = let whole = c.in_ok-of_form.ensures in (whole.0, whole.1, sym (c.in_ok-first_fault.ensures whole.0 whole.1))
-
 pub returns : goal.returns
 returns c =
     let whole = c.in_ok-of_form.ensures in

@@ -11,26 +11,22 @@ need_marks-marked-requires c = markable c.requires.1 c.requires.2 (c.sections-pl
 pub slice_bounds-forbidden-end : goal.slice_bounds-forbidden-end
 slice_bounds-forbidden-end c =
     let places = c.sections-places.ensures c.requires.0 c.requires.1 in
-    let sets = sets_read c.requires.1 c.requires.2 places c.forbidden_sets-count.ensures in
-    omega (arith, sets_few c.requires.1 c.requires.2 places sets, c.forbidden_sets-count.auto.sets)
+    omega (arith, sets_few c.requires.1 c.requires.2 places c.forbidden_sets-count.ensures, c.forbidden_sets-count.auto.sets)
 
 pub slice_bounds-load-end : goal.slice_bounds-load-end
 slice_bounds-load-end c =
     let places = c.sections-places.ensures c.requires.0 c.requires.1 in
-    let sets = sets_read c.requires.1 c.requires.2 places c.forbidden_sets-count.ensures in
-    sym (length-take-le _ _ (omega (arith, sets_few c.requires.1 c.requires.2 places sets, c.forbidden_sets-count.auto.sets)))
+    sym (length-take-le _ _ (omega (arith, sets_few c.requires.1 c.requires.2 places c.forbidden_sets-count.ensures, c.forbidden_sets-count.auto.sets)))
 
 pub slice_bounds-marks-end : goal.slice_bounds-marks-end
 slice_bounds-marks-end c =
     let places = c.sections-places.ensures c.requires.0 c.requires.1 in
-    let marks = marks_read c.requires.1 c.requires.2 places c.need_marks-marked.ensures in
-    omega (arith, marks_few c.requires.1 c.requires.2 places marks, c.need_marks-marked.auto.marks)
+    omega (arith, marks_few c.requires.1 c.requires.2 places c.need_marks-marked.ensures, c.need_marks-marked.auto.marks)
 
 pub slice_bounds-load-end-2 : goal.slice_bounds-load-end-2
 slice_bounds-load-end-2 c =
     let places = c.sections-places.ensures c.requires.0 c.requires.1 in
-    let marks = marks_read c.requires.1 c.requires.2 places c.need_marks-marked.ensures in
-    sym (length-take-le _ _ (omega (arith, marks_few c.requires.1 c.requires.2 places marks, c.need_marks-marked.auto.marks)))
+    sym (length-take-le _ _ (omega (arith, marks_few c.requires.1 c.requires.2 places c.need_marks-marked.ensures, c.need_marks-marked.auto.marks)))
 
 pub unwrap-job-requires : goal.unwrap-job-requires
 unwrap-job-requires c =

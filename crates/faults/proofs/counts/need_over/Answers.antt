@@ -1,30 +1,17 @@
 -- `faults::counts::need_over` meets its contract. Assumes nothing.
-use mathlib.Core.Path.{refl, sym, ap, ◌∙◌}
+use mathlib.Core.Path.{sym, ap, ◌∙◌}
 use Prim.Native.Nat.{◌-◌, ◌<◌}
 use native.Mathlib.Omega.{arith}
-use lib.ListN.{length}
 use Rattle.std.proofs.Common.{rules}
 use Rattle.rules.specs.Options.{option_map}
 use Rattle.rules.specs.Numbers.{most_needs}
 use Rattle.rules.specs.Refusals.{too_many_parts}
 use Rattle.rules.specs.Texts.{line}
 use Rattle.rules.specs.Sheets.{refusal}
-use Rattle.faults.proofs.Left.{rows_start, row_here, row_next, row_end}
+use Rattle.faults.proofs.Left.{row_here, row_next, row_end}
 use Rattle.faults.proofs.Refusing.{passed_on}
 use Rattle.faults.proofs.Counted.{no_row_over, row_over, row_refused, row_passed}
 use Rattle.faults.proofs.counts.need_over.Goals as goal
-
-pub loop-count-init : goal.loop-count-init
-loop-count-init c =
-    let begun = c.into_iter-count-iterator.ensures.into_iter_gives in
-    let none_yet = ap (λ e. e.count) begun ∙ c.enumerate-count-items.ensures.count in
-    let walk = ap (λ e. e.iter) begun ∙ c.enumerate-count-items.ensures.source in
-    record { goes = search rules; ends = tt; text = ap (λ w. w.text.now) walk ∙ c.new.ensures.text; few = omega arith; left = λ q rows r. rw (walk, none_yet) (rows_start c.new.ensures r refl) }
-
-pub overflow_add-place : goal.overflow_add-place
-overflow_add-place c =
-    let step = c.in-Some.ensures.steps in
-    omega (arith, step.0.inside, step.0.here, ap length c.loop-count.invariant.text, c.width-before.ensures)
 
 pub returns-then-count-eq-MOST_NEEDS : goal.returns-then-count-eq-MOST_NEEDS
 returns-then-count-eq-MOST_NEEDS c =

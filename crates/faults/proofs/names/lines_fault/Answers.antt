@@ -1,29 +1,11 @@
 -- `faults::names::lines_fault` meets its contract. Assumes nothing.
-use mathlib.Core.Path.{refl, sym, ap, ◌∙◌}
-use native.Mathlib.Omega.{arith}
-use lib.ListN.{length}
+use mathlib.Core.Path.{sym, ◌∙◌}
 use Rattle.rules.specs.Texts.{line}
-use Rattle.naming.proofs.KeyPlaces.{width_bounds}
 use Rattle.faults.specs.Kinds.{fault_by}
-use Rattle.faults.proofs.Left.{rows_start, row_here, row_next, row_end}
+use Rattle.faults.proofs.Left.{row_here, row_next, row_end}
 use Rattle.faults.proofs.Refusing.{passed_on}
 use Rattle.faults.proofs.Tested.{line_faulty, line_right, no_line_faulty}
 use Rattle.faults.proofs.names.lines_fault.Goals as goal
-
-pub loop-place-init : goal.loop-place-init
-loop-place-init c =
-    let begun = c.into_iter-place-iterator.ensures.into_iter_gives in
-    record {
-      goes = tt;
-      ends = tt;
-      text = ap (λ w. w.text.now) begun ∙ c.new-place-items.ensures.text;
-      left = λ q to columns rows k few r. rw begun (rows_start c.new-place-items.ensures r refl);
-    }
-
-pub overflow_add-place : goal.overflow_add-place
-overflow_add-place c =
-    let step = c.in-Some.ensures.steps in
-    omega (arith, step.inside, step.here, ap length c.loop-place.invariant.text, c.width-before.ensures, (width_bounds c.args.section).1)
 
 pub returns-in_err-line_fault : goal.returns-in_err-line_fault
 returns-in_err-line_fault c =

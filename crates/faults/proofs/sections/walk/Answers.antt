@@ -2,23 +2,8 @@
 use mathlib.Core.Path.{ap, ◌∙◌}
 use native.Mathlib.Omega.{arith}
 use lib.ListN.{length}
-use Rattle.faults.proofs.Left.{rows_start, row_next, row_end, asked_some, asked_none}
+use Rattle.faults.proofs.Left.{row_next, row_end, asked_some, asked_none}
 use Rattle.faults.proofs.sections.walk.Goals as goal
-
-pub loop-lines-init : goal.loop-lines-init
-loop-lines-init c = record {
-  text = c.new-walk.ensures.text;
-  few = (omega arith, omega arith);
-  left = λ q rows r. rows_start c.new-walk.ensures r (omega arith);
-}
-
-pub overflow_add-lines : goal.overflow_add-lines
-overflow_add-lines c = omega (arith, c.loop-lines.invariant.few)
-
-pub loop-lines-smaller : goal.loop-lines-smaller
-loop-lines-smaller c =
-    let step = (asked_some c.next.result c.loop-lines-test.ensures c.next.ensures.steps).1 in
-    omega (arith, step.inside, step.later, ap length c.loop-lines.invariant.text)
 
 pub loop-lines-preserved : goal.loop-lines-preserved
 loop-lines-preserved c =
@@ -29,9 +14,6 @@ loop-lines-preserved c =
       few = (omega (arith, l.invariant.few, step.later), omega (arith, l.invariant.few, step.inside, ap length l.invariant.text));
       left = λ q rows r. row_next (l.invariant.left q rows r) step (λ to names later w e. omega (arith, e));
     }
-
-pub returns-clause-few : goal.returns-clause-few
-returns-clause-few c = c.loop-lines.invariant.few.1
 
 pub returns-clause-is : goal.returns-clause-is
 returns-clause-is c =

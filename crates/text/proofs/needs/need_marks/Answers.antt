@@ -3,7 +3,6 @@ use mathlib.Core.Path.{refl, ◌∙◌}
 use native.Mathlib.Omega.{arith}
 use lib.ListN.{length-set}
 use Rattle.rules.specs.Marks.{end_mark}
-use Rattle.rules.specs.Signs.{Says, need_key}
 use Rattle.naming.specs.declared.sections.Section.TheVariants.{Need}
 use Rattle.naming.proofs.KeyPlaces.{key_inside}
 use Rattle.text.proofs.MarksLaid.{laying_none, laying_asks, laying_room, laying_more, laying_done}
@@ -24,46 +23,40 @@ or_list-read-requires c =
 
 pub offset_bounds-marks-last : goal.offset_bounds-marks-last
 offset_bounds-marks-last c =
-    let here : Says c.args.text.now c.loop-place.place need_key = c.key_stands.ensures.there c.loop-place-test.true in
-    let marked = rw c.width-before.ensures at c.or_list-read.ensures in
-    let room = laying_room c.loop-place.invariant.1 here marked c.or_list-read.auto.marks in
+    let here = c.key_stands.ensures.there c.loop-place-test.true in
+    let room = laying_room c.loop-place.invariant.1 here c.width-before.ensures c.or_list-read.ensures c.or_list-read.auto.marks in
     omega arith
 
 pub bounds-marks-last : goal.bounds-marks-last
 bounds-marks-last c =
-    let here : Says c.args.text.now c.loop-place.place need_key = c.key_stands.ensures.there c.loop-place-test.true in
-    let marked = rw c.width-before.ensures at c.or_list-read.ensures in
-    let room = laying_room c.loop-place.invariant.1 here marked c.or_list-read.auto.marks in
+    let here = c.key_stands.ensures.there c.loop-place-test.true in
+    let room = laying_room c.loop-place.invariant.1 here c.width-before.ensures c.or_list-read.ensures c.or_list-read.auto.marks in
     room.0
 
 pub overflow_add-count : goal.overflow_add-count
 overflow_add-count c =
-    let here : Says c.args.text.now c.loop-place.place need_key = c.key_stands.ensures.there c.loop-place-test.true in
-    let marked = rw c.width-before.ensures at c.or_list-read.ensures in
-    let room = laying_room c.loop-place.invariant.1 here marked c.or_list-read.auto.marks in
+    let here = c.key_stands.ensures.there c.loop-place-test.true in
+    let room = laying_room c.loop-place.invariant.1 here c.width-before.ensures c.or_list-read.ensures c.or_list-read.auto.marks in
     omega arith
 
 pub overflow_add-place-in-loop-place : goal.overflow_add-place-in-loop-place
 overflow_add-place-in-loop-place c =
-    let here : Says c.args.text.now c.loop-place.place need_key = c.key_stands.ensures.there c.loop-place-test.true in
-    let marked = rw c.width-before.ensures at c.or_list-read.ensures in
-    let room = laying_room c.loop-place.invariant.1 here marked c.or_list-read.auto.marks in
+    let here = c.key_stands.ensures.there c.loop-place-test.true in
+    let room = laying_room c.loop-place.invariant.1 here c.width-before.ensures c.or_list-read.ensures c.or_list-read.auto.marks in
     omega arith
 
 pub loop-place-smaller : goal.loop-place-smaller
 loop-place-smaller c =
-    let here : Says c.args.text.now c.loop-place.place need_key = c.key_stands.ensures.there c.loop-place-test.true in
-    let marked = rw c.width-before.ensures at c.or_list-read.ensures in
-    let room = laying_room c.loop-place.invariant.1 here marked c.or_list-read.auto.marks in
+    let here = c.key_stands.ensures.there c.loop-place-test.true in
+    let room = laying_room c.loop-place.invariant.1 here c.width-before.ensures c.or_list-read.ensures c.or_list-read.auto.marks in
     omega arith
 
 pub loop-place-preserved : goal.loop-place-preserved
 loop-place-preserved c =
-    let here : Says c.args.text.now c.loop-place.place need_key = c.key_stands.ensures.there c.loop-place-test.true in
-    let marked = rw c.width-before.ensures at c.or_list-read.ensures in
+    let here = c.key_stands.ensures.there c.loop-place-test.true in
     let read = c.or_list-read in (
       length-set read.new.marks read.result.marked end_mark ∙ read.auto.marks ∙ c.loop-place.invariant.0,
-      laying_more c.loop-place.invariant.1 here marked read.auto.marks,
+      laying_more c.loop-place.invariant.1 here c.width-before.ensures read.ensures read.auto.marks,
     )
 
 pub returns : goal.returns

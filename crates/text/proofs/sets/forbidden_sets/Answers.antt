@@ -1,21 +1,10 @@
 -- `text::sets::forbidden_sets` meets its contract. Assumes nothing.
-use mathlib.Core.Path.{◌≡◌, ap, ◌∙◌}
+use mathlib.Core.Path.{◌≡◌, ◌∙◌}
 use native.Mathlib.Omega.{arith}
 use lib.ListN.{length}
 use Rattle.std.proofs.lemmas.List.{set-get_or}
-use Rattle.text.proofs.SetLines.{sets_none, sets_more, sets_end, sets_full}
+use Rattle.text.proofs.SetLines.{sets_more, sets_end, sets_full}
 use Rattle.text.proofs.sets.forbidden_sets.Goals as goal
-
-pub loop-count-init : goal.loop-count-init
-loop-count-init c = record {
-  text = c.new-lines.ensures.text;
-  left = λ q to columns rows known few are. sets_none c.args.sets.now c.new-lines.ensures are;
-}
-
-pub overflow_add-place : goal.overflow_add-place
-overflow_add-place c =
-    let step = c.in-Some.ensures.steps in
-    omega (arith, step.inside, step.here, ap length c.loop-count.invariant.text, c.width-before.ensures)
 
 pub returns-in_default : goal.returns-in_default
 returns-in_default c =

@@ -1,19 +1,12 @@
 -- `text::table::name_table` meets its contract. Assumes nothing.
-use mathlib.Core.Path.{◌≡◌, refl, ap, ◌∙◌}
+use mathlib.Core.Path.{◌≡◌, refl, ◌∙◌}
 use native.Mathlib.Omega.{arith}
-use lib.ListN.{length}
 use Rattle.rules.specs.Sets.{most_columns}
 use Rattle.text.proofs.Tabling.{filled_none, filled_more, filled_end, filled_full}
 use Rattle.text.proofs.table.name_table.Goals as goal
 
 pub loop-columns-init : goal.loop-columns-init
 loop-columns-init c = record { text = c.new-places.ensures.text; long = refl; filled = λ q known w. filled_none c.new-places.ensures w }
-
-pub put_name-requires : goal.put_name-requires
-put_name-requires c =
-    let l = c.loop-columns in
-    let step = c.in-Some.ensures.steps in
-    (omega (arith, c.loop-columns-test.true, l.invariant.long), omega (arith, step.here, step.inside, ap length l.invariant.text))
 
 pub returns-in_default : goal.returns-in_default
 returns-in_default c = λ q known w few. filled_end (c.loop-columns.invariant.filled q known w) c.in_default.ensures.steps
