@@ -1,4 +1,5 @@
-// How many places the lent slices have for nodes and for paths.
+// How many places the lent slices have for nodes and for paths: two functions, since each is one line and its answer has a word of its own
+// in the rules.
 ghost use Rattle.std.specs.Prelude.{◌≡◌};
 ghost use Rattle.rules.specs.Drawings.{node_room, path_room};
 ghost use Rattle.growing.specs.Slices.{node_slices};
