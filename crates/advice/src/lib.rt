@@ -17,7 +17,8 @@ ghost use Rattle.writing.specs.Added.{Holds};
 ghost use Rattle.writing.specs.Puts.{Puts};
 ghost use Rattle.advice.specs.Sentences.{sentence};
 
-// Writes the sentence for a refusal over the first places of the page, as far as there are places, and says how many bytes of it stand there.
+// Writes the sentence for a refusal over the first places of the page, as far as there are places, and says how many bytes of it stand there. It takes the
+// refusal as a number, since it promises an answer for every number, also for those that no refusal has.
 pub fn advise(text: &[u8], number: u16, place: usize, page: &mut [u8]) -> usize
     ensures { Holds (sentence text.now number place) page.old result page.new }
 {

@@ -25,7 +25,8 @@ pub struct Reported {
     pub length: usize,
 }
 
-// The names of a text's columns, and the planner's split of its job over the first places of the extracts.
+// The names of a text's columns, and the planner's split of its job over the first places of the extracts: memory is fixed, so how many there are stands
+// beside them.
 #[derive(Clone, Copy)]
 struct Split {
     names: [u8; NAMES],

@@ -14,7 +14,8 @@ use naming::signs::byte;
 use naming::words::MOST_NAME_BYTES;
 use writing::Page;
 
-// The name of a column, which ends at the first 0 of its row.
+// The name of a column, which ends at the first 0 of its row of 12 bytes. The table is laid out as C gets it, and past its end `byte` reads 0, so that no
+// length is asked of callers.
 fn put_name(page: &mut Page, names: &[u8], column: u16)
     ensures { PutsNamed names.now (λ columns. get_or columns column []) page.old page.new }
 {

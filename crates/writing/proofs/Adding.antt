@@ -2,10 +2,9 @@
 use mathlib.Core.Path.{◌≡◌, refl, sym, ap, ◌∙◌}
 use mathlib.Core.List.{List, [], ◌∷◌, ◌++◌, append_assoc, append-nil}
 use Prim.Native.Nat.{ℕ, ◌+◌, ◌≤◌, ◌<◌}
-use native.Mathlib.Numerals.{add-one}
 use native.Mathlib.Omega.{arith}
-use lib.ListN.{length, get_or, set, take, length-append}
-use lib.Seq.{length-take-le, take-append_seam, take-suc, take_all}
+use lib.ListN.{length, set, take, length-append}
+use lib.Seq.{length-take-le, take-append_seam}
 use Rattle.rules.specs.Lists.{written}
 use Rattle.rules.proofs.Written.{length_written, written_last, written_full, written_back}
 use Rattle.writing.specs.Added.{Holds, Adds}
@@ -62,16 +61,6 @@ adds_no_byte sign next page full text old h =
       place = omega (arith, h.place, long, full, more);
       held = h.held ∙ ap (λ (l : List ℕ). written l old) (sym (take-append_seam text (sign ∷ []))) ∙ written_full (length text) (text ++ (sign ∷ [])) old less;
     }
-
--- the first i bytes are added, and then the next
-pub adds_next : (words : List ℕ) (i next middle last : ℕ) (page between new : List ℕ) → i < length words → Adds (take i words) next page middle between
-    → Adds (get_or words i 0 ∷ []) middle between last new → Adds (take (i + 1) words) next page last new
-adds_next words i next middle last page between new h a b = rw (add-one, take-suc words i 0 h) (adds_both a b)
-
--- the first i bytes are all bytes
-pub adds_all : (words : List ℕ) (i next last : ℕ) (page new : List ℕ) → length words ≤ i → Adds (take i words) next page last new
-    → Adds words next page last new
-adds_all words i next last page new h a = rw (take_all i words h) at a
 
 -- ---- the same of a lent page that holds its next place
 

@@ -46,6 +46,8 @@ impl Page<'_> {
     }
 }
 
+// The same for one call, on a slice with the place that comes next beside it: these are public functions that the papers name.
+
 // Puts one byte at a place of the page, and says which place comes next.
 pub fn put_byte(page: &mut [u8], at: usize, sign: u8) -> usize
     ensures { Adds (sign ∷ []) at page.old result page.new }
