@@ -265,10 +265,5 @@ fn joins(section: Section, byte: u8) -> bool
 fn has_brackets(section: Section) -> bool
     ensures { result ≡ has_brackets section }
 {
-    match section {
-        Section::Columns => false,
-        Section::Forbid => false,
-        Section::Need => true,
-        Section::End => false,
-    }
+    matches!(section, Section::Need)
 }

@@ -19,6 +19,7 @@ pub fn column_of(text: &[u8], at: usize) -> Option<u16>
     ensures is { (p q : ℕ) (columns : List Spot) → Words text.now columns_from q columns → length columns ≤ most_columns
         → Run text.now at p → result ≡ column_named columns (piece text.now at p) }
 {
+    // the place goes on from name to name beside the column
     let mut place = next_name(text, COLUMNS_FROM);
     for column in 0..ColumnSet::MOST_COLUMNS {
         if !in_name(byte(text, place)) {

@@ -61,6 +61,7 @@ pub fn stands_before(text: &[u8], from: usize, at: usize) -> bool
         → Run text.now at p → result ≡ stands_in before (spot text.now at p) }
 {
     let mut place = next_name(text, from);
+    // the place goes on from name to name, so no index is counted; a chain over the names would have to stop by hand too, at the name itself
     while place < at {
         if !in_name(byte(text, place)) {
             return false;
