@@ -40,19 +40,16 @@ pub fn first_forbidden(forbidden: &[u16], split: &[u16]) -> Option<(usize, usize
     None
 }
 
-// The first extract that shares a column with a later one, and the first such one. The pairs are searched in the order in which the rules compare them, and
-// left by a label at the first pair that shares.
+// The first extract that shares a column with a later one, and the first such one.
 pub fn first_sharing(split: &[u16]) -> Option<(usize, usize)>
     ensures { (job : Job) → places_of result ≡ first_sharing job split.now }
 {
-    let mut found = None;
-    'search: for i in 0..split.len() {
+    for i in 0..split.len() {
         for j in i + 1..split.len() {
             if !unlinked(split[i], split[j]) {
-                found = Some((i, j));
-                break 'search;
+                return Some((i, j));
             }
         }
     }
-    found
+    None
 }
