@@ -124,21 +124,12 @@ impl Display for Nodes {
 // The first paths, each as ones, zeros, and how many places of each slice are untouched.
 impl Display for Paths {
     fn fmt<W: Write>(&self, f: &mut Formatter<W>) -> fmt::Result {
+        let paths = self.ones.as_slice().iter().zip(self.zeros.as_slice());
         let shown = self.ones.written().min(MOST_SHOWN);
-        for (ones, zeros) in self
-            .ones
-            .as_slice()
-            .iter()
-            .zip(self.zeros.as_slice())
-            .take(shown)
-        {
+        for (ones, zeros) in paths.take(shown) {
             write!(f, ", path {ones} {zeros}")?;
         }
-        write!(
-            f,
-            ", untouched {} {}",
-            self.ones.untouched(),
-            self.zeros.untouched()
-        )
+        write!(f, ", untouched {} ", self.ones.untouched())?;
+        write!(f, "{}", self.zeros.untouched())
     }
 }

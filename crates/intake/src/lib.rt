@@ -16,6 +16,7 @@ pub fn fill<R: Read>(input: &mut R, buffer: &mut [u8]) -> (usize, io::Result<()>
     ensures room { OnErr result.1 (result.0 < length buffer.new) }
 {
     let mut count = 0;
+    // how far each turn goes on is told by the read, so no range or iterator says it
     while count < buffer.len() {
         match input.read(&mut buffer[count..]) {
             Ok(0) => return (count, Ok(())),

@@ -1,5 +1,5 @@
 // A text that is put together byte for byte.
-ghost use Rattle.std.specs.Prelude.{◌≡◌, ◌+◌, ◌≤◌, min, take};
+ghost use Rattle.std.specs.Prelude.{◌≡◌, ◌+◌, ◌≤◌, length, min, take};
 
 // More bytes than a text may have.
 pub const ROOM: usize = 8200;
@@ -44,7 +44,9 @@ impl Draft {
         }
     }
 
-    pub fn put_all(&mut self, bytes: &[u8]) {
+    pub fn put_all(&mut self, bytes: &[u8])
+        ensures { self.new.filled ≡ min (self.old.filled + length bytes.now) 8200 }
+    {
         for byte in bytes {
             self.put(*byte);
         }

@@ -26,7 +26,9 @@ impl<const MOST: usize, const BEFORE: u16> Lent<MOST, BEFORE> {
         &self.places[..self.room]
     }
 
-    pub fn as_mut_slice(&mut self) -> &mut [u16] {
+    pub fn as_mut_slice(&mut self) -> &mut [u16]
+        ensures { length result.now ≡ self.old.room }
+    {
         let room = self.room;
         let places = &mut self.places;
         &mut places[..room]

@@ -1,5 +1,5 @@
 // A job of 16 columns as one in usual use: 20 forbidden sets of two to eight columns, and five small needs. Its columns are drawn with
-// `random::next` from the seed 88172645463325252: each number after the seed, divided by 65,536, modulo 16, is a column, which is passed over
+// `Random::next` from the seed 88172645463325252: each number after the seed, divided by 65,536, modulo 16, is a column, which is passed over
 // if its set or need has it. Set i has 2 + i % 7 columns, after them the needs have 4, 3, 2, 2 and 1.
 use job::Numbers;
 
