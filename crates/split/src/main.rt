@@ -4,6 +4,7 @@
 
 use advice::advise;
 use intake::fill;
+use job::refusals::Fault;
 use report::{MOST_PAGE_BYTES, Reported, report};
 use text::MOST_BYTES;
 
@@ -22,17 +23,17 @@ fn main(rt: HostRuntime) {
 
 fn answer(output: &impl Print, errors: &impl Print, text: &[u8]) {
     let mut page = [0u8; MOST_PAGE_BYTES];
-    let reported = report(text, &mut page);
-    if output.write_all(&page[..reported.length]).is_err() {
+    let Reported { outcome, length } = report(text, &mut page);
+    if output.write_all(&page[..length]).is_err() {
         let _ = errors.write_all(b"The answer could not be written to standard output.\n");
     }
-    if reported.refusal != 0 {
-        explain(errors, text, reported);
+    if let Err(fault) = outcome {
+        explain(errors, text, fault);
     }
 }
 
-fn explain(errors: &impl Print, text: &[u8], reported: Reported) {
+fn explain(errors: &impl Print, text: &[u8], fault: Fault) {
     let mut sentence = [0u8; MOST_SENTENCE];
-    let length = advise(text, reported.refusal, reported.place, &mut sentence);
+    let length = advise(text, fault.refusal.into(), fault.place, &mut sentence);
     let _ = errors.write_all(&sentence[..length]);
 }
