@@ -4,14 +4,26 @@ use mathlib.Core.List.{List, [], ◌∷◌, map}
 use Rattle.rules.proofs.Options.{None, Some, option_or, map-eq-none_iff, option_map}
 use Prim.Native.Nat.{ℕ, zero, suc, ◌+◌, ◌-◌, ◌<◌}
 use native.Mathlib.Omega.{arith}
+use Rattle.rules.specs.Lists.{first_of}
 use Rattle.rules.specs.Numbers.{most_column_marks}
 use Rattle.rules.specs.Refusals.{too_many_parts}
 use Rattle.rules.specs.Names.{Spot}
 use Rattle.rules.specs.Phrases.{Formula, names_in}
 use Rattle.rules.specs.Texts.{Line, line}
-use Rattle.rules.specs.Sheets.{Refusal, refusal, name_after, needs_over}
+use Rattle.rules.specs.Sheets.{Refusal, refusal, name_after, line_after, needs_over}
 use Rattle.faults.specs.Kinds.{rows_over}
 use Rattle.faults.proofs.Refusing.{first_there, map_first}
+
+-- when all that may stand were counted the next name is the one after them
+pub name_after_lem : (most count : ℕ) (x : Spot) (names : List Spot) → count ≡ most → name_after (most - count) (x ∷ names) ≡ Some x.place
+unfolding name_after first_of
+name_after_lem most count x names e = let z : most - count ≡ 0 = omega arith in rw z
+
+-- so is the next line
+pub line_after_lem : (most count : ℕ) (l : Line (List Spot)) (lines : List (Line (List Spot))) → count ≡ most
+    → line_after (most - count) (l ∷ lines) ≡ Some l.place
+unfolding line_after first_of
+line_after_lem most count l lines e = let z : most - count ≡ 0 = omega arith in rw z
 
 -- of no need line nothing is too many
 pub no_row_over : (k : ℕ) → rows_over k [] ≡ None

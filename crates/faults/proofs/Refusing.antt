@@ -24,11 +24,6 @@ module _ {A B : Type 0} where
   map_first g None b = refl
   map_first g (Some x) b = refl
 
--- what is changed by nothing stays
-pub map_same : {A : Type 0} (o : Option A) → option_map (λ x. x) o ≡ o
-map_same None = refl
-map_same (Some x) = refl
-
 -- what an error that is passed on refuses
 pub passed_on : (r : Result (Unit {0}) Fault) (f : Fault) {a : Option Refusal} → IsErrAnd r (λ e. e ≡ f) → Some (refusal_at f) ≡ a → refusal_in r ≡ a
 passed_on r f e is = let p = err_from_is_err_and r e in rw (p.1, p.2) is

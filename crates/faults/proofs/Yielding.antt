@@ -7,6 +7,7 @@ use lib.ListN.{length, drop}
 use Rattle.std.specs.Iterator.{AlwaysYields, SkipsThenYields}
 use Rattle.std.specs.List.{slice_get}
 use Rattle.std.proofs.lemmas.Iterator.{YieldsList}
+use Rattle.std.proofs.lemmas.Iterator.Adapters.{option_map_id}
 use Rattle.std.proofs.lemmas.Iterator.Consumers.{nth_from_yields_List}
 use Rattle.rules.specs.Options.{Option, option_map}
 use Rattle.rules.specs.Lists.{first_of}
@@ -20,7 +21,6 @@ use Rattle.naming.proofs.Walks.{Ahead, ahead_start, ahead_turn, ahead_end}
 use Rattle.faults.specs.Walks.{NamesFrom, GivesName, LinesFrom, GivesLine}
 use Rattle.faults.specs.declared.walks.Names.{Names}
 use Rattle.faults.specs.declared.walks.Lines.{Lines}
-use Rattle.faults.proofs.Refusing.{map_same}
 
 -- ---- names
 
@@ -81,7 +81,7 @@ pub nth_name : {s : List ℕ} {from q : ℕ} (k : ℕ) {names : List Spot} {walk
     → SkipsThenYields GivesName walk k r next → r ≡ name_after k names
 unfolding name_after
 nth_name k {names} next {r} f w ran =
-    sym (map_same r) ∙ nth_from_yields_List r next k ran (names_yield f w) ∙ slice_get_map_first (λ x. x.place) k names
+    sym (option_map_id r) ∙ nth_from_yields_List r next k ran (names_yield f w) ∙ slice_get_map_first (λ x. x.place) k names
 
 -- the line behind the first k
 pub nth_line : {s : List ℕ} {section : Section} {from q : ℕ} (k : ℕ) {rows : List (Line (List Spot))} {walk : Lines} (next : Lines)
@@ -89,4 +89,4 @@ pub nth_line : {s : List ℕ} {section : Section} {from q : ℕ} (k : ℕ) {rows
     → LinesFrom s section from walk → Rows s (key_of section) from q rows → SkipsThenYields GivesLine walk k r next → r ≡ line_after k rows
 unfolding line_after
 nth_line k {rows} next {r} f are ran =
-    sym (map_same r) ∙ nth_from_yields_List r next k ran (lines_yield f are) ∙ slice_get_map_first (λ l. l.place) k rows
+    sym (option_map_id r) ∙ nth_from_yields_List r next k ran (lines_yield f are) ∙ slice_get_map_first (λ l. l.place) k rows

@@ -1,5 +1,6 @@
 -- The laws that the proofs of text share.
 pub mod NameTables
+pub mod NamesPut
 pub mod NamesBack
 pub mod Tabling
 pub mod Gathering

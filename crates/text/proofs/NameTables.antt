@@ -1,9 +1,10 @@
 -- The table of names, filled name after name. Assumes nothing.
 use mathlib.Core.Path.{◌≡◌, refl, sym, ap, ◌∙◌}
 use mathlib.Core.List.{List, [], ◌∷◌, ◌++◌, append_assoc, append-nil}
-use Prim.Native.Nat.{ℕ, zero, suc, ◌-◌, ◌*◌, ◌≤◌, ◌<◌}
+use Prim.Native.Nat.{ℕ, ◌-◌, ◌*◌, ◌≤◌, ◌<◌}
 use native.Mathlib.Omega.{arith}
 use lib.ListN.{length, take, drop, replicate, length-replicate, length-append}
+use Rattle.std.proofs.lemmas.List.{drop-replicate}
 use Rattle.rules.specs.Lists.{written}
 use Rattle.rules.specs.Sets.{most_columns}
 use Rattle.rules.specs.Names.{most_name_bytes}
@@ -25,18 +26,13 @@ rows_last (x ∷ names) name =
     ap (λ (l : List ℕ). written x (replicate most_name_bytes 0) ++ l) (rows_last names name)
     ∙ sym (append_assoc (written x (replicate most_name_bytes 0)) (name_rows names) (written name (replicate most_name_bytes 0)))
 
-drop_equal : (n m d : ℕ) → drop n (replicate m d) ≡ replicate (m - n) d
-drop_equal zero m d = let e : m - 0 ≡ m = omega arith in rw e
-drop_equal (suc n) zero d = let e : 0 - suc n ≡ 0 = omega arith in rw e
-drop_equal (suc n) (suc m) d = let e : suc m - suc n ≡ m - n = omega arith in rw e (drop_equal n m d)
-
 -- a table with a name more: the name is written behind the rows that stand
 pub table_more : (names : List (List ℕ)) (name : List ℕ) → length names < most_columns → length name ≤ most_name_bytes
     → take (most_name_bytes * length names) (name_table names) ++ written name (drop (most_name_bytes * length names) (name_table names))
     ≡ name_table (names ++ (name ∷ []))
 unfolding name_table
 table_more names name few short =
-    rw (← many) (go (replicate table_bytes 0) (length-replicate {A = ℕ} table_bytes 0) (drop_equal (length (name_rows names)) table_bytes 0))
+    rw (← many) (go (replicate table_bytes 0) (length-replicate {A = ℕ} table_bytes 0) (drop-replicate (length (name_rows names)) table_bytes 0))
   where
     many : length (name_rows names) ≡ most_name_bytes * length names
     many = length_rows names
