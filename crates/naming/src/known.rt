@@ -7,7 +7,7 @@ ghost use Rattle.rules.specs.Sheets.{column_named, column_in};
 ghost use Rattle.naming.specs.Words.{Words, columns_from};
 
 use crate::signs::{byte, in_name};
-use crate::words::{name_end, next_name, same};
+use crate::words::{name_at, next_name};
 use columns::ColumnSet;
 
 // The names of the columns stand behind `columns=`.
@@ -19,16 +19,18 @@ pub fn column_of(text: &[u8], at: usize) -> Option<u16>
     ensures is { (p q : ℕ) (columns : List Spot) → Words text.now columns_from q columns → length columns ≤ most_columns
         → Run text.now at p → result ≡ column_named columns (piece text.now at p) }
 {
+    let sought = name_at(text, at);
     // the place goes on from name to name beside the column
     let mut place = next_name(text, COLUMNS_FROM);
     for column in 0..ColumnSet::MOST_COLUMNS {
         if !in_name(byte(text, place)) {
             return None;
         }
-        if same(text, place, at) {
+        let name = name_at(text, place);
+        if name == sought {
             return Some(column);
         }
-        place = next_name(text, name_end(text, place));
+        place = next_name(text, place + name.len());
     }
     None
 }
