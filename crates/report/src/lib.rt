@@ -53,14 +53,12 @@ fn split_of(text: &[u8]) -> Result<Split, Fault>
 {
     let JobRead { job, names } = read(text)?;
     let mut extracts = [0u16; MOST_EXTRACTS];
-    match planned(&job, &mut extracts) {
-        Ok(count) => Ok(Split {
-            names,
-            extracts,
-            count: count as usize,
-        }),
-        Err(refusal) => Err(Fault { refusal, place: 0 }),
-    }
+    let count = planned(&job, &mut extracts).map_err(|refusal| Fault { refusal, place: 0 })?;
+    Ok(Split {
+        names,
+        extracts,
+        count: count as usize,
+    })
 }
 
 // Puts the page of a text, and says how the text ended.

@@ -1,6 +1,7 @@
 -- `report::split_of` meets its contract. Assumes nothing.
+use Rattle.job.specs.declared.refusals.Refusal.{Refusal}
 use mathlib.Core.Path.{◌≡◌, refl}
-use Rattle.std.proofs.Common.{rules, Err}
+use Rattle.std.proofs.Common.{rules, Ok, Err}
 use Rattle.report.proofs.Answers.{filled, comes_unread, comes_unplanned, comes_planned}
 use Rattle.report.proofs.split_of.Goals as goal
 
@@ -12,8 +13,12 @@ returns-in_err-job c =
 pub planned-requires : goal.planned-requires
 planned-requires c = filled c.in_ok-job.ensures refl
 
-pub returns-in-Ok : goal.returns-in-Ok
-returns-in-Ok c = comes_planned c.in_ok-job.ensures c.in-Ok.ensures
+pub returns-in_err-count : goal.returns-in_err-count
+returns-in_err-count c =
+    let told : (r : Refusal) × (c.planned.result ≡ Err r) × (c.from_residual-in_err-count.result ≡ Err (record { refusal = r; place = 0 })) = search rules in
+    rw told.2 (comes_unplanned c.in_ok-job.ensures {refusal = told.0} (rw told.1 at c.planned.ensures))
 
-pub returns-in-Err : goal.returns-in-Err
-returns-in-Err c = comes_unplanned c.in_ok-job.ensures c.in-Err.ensures
+pub returns : goal.returns
+returns c =
+    let is : c.planned.result ≡ Ok c.in_ok-count.count = search rules in
+    comes_planned c.in_ok-job.ensures (rw is at c.planned.ensures)
