@@ -2,6 +2,7 @@
 pub mod Said
 pub mod Runs
 pub mod Fronts
+pub mod Alike
 pub mod Walks
 pub mod AllSections
 pub mod KeysApart

@@ -45,6 +45,21 @@ from_more P {p} {q} before here i l h = go (ℕ_discrete i q)
 
 -- ---- runs of letters and digits
 
--- where the first byte is in a name the run goes past it
-pub run_some : {s : List ℕ} {p q : ℕ} → Run s p q → in_name (byte_at s p) ≡ true → p < q
-run_some {p} {q} run e = lt_of_not-le (λ (h : q ≤ p). let h' : p ≡ q = omega (arith, run.forward) in holds_fails _ e (rw h' run.ends))
+module _ {s : List ℕ} {p q : ℕ} (run : Run s p q) where
+  -- where the first byte is in no name the run is empty
+  pub run_none : in_name (byte_at s p) ≡ false → q ≡ p
+  run_none e = go (ℕ_discrete q p)
+    where
+      go : Dec (q ≡ p) → q ≡ p
+      go (yes h) = h
+      go (no n) = let h : p < q = omega (arith, run.forward) in holds_fails _ (run.goes_on p (omega arith) h) e
+
+  -- where the first byte is in a name the run goes past it
+  pub run_some : in_name (byte_at s p) ≡ true → p < q
+  run_some e = lt_of_not-le (λ (h : q ≤ p). let h' : p ≡ q = omega (arith, run.forward) in holds_fails _ e (rw h' run.ends))
+
+  -- and from the next place on it is a run too
+  pub run_later : in_name (byte_at s p) ≡ true → Run s (p + 1) q
+  run_later e =
+      let h : p + 1 ≤ q = omega (arith, run_some e) in
+      record { forward = h; goes_on = λ i l k. run.goes_on i (omega arith) k; ends = run.ends }
