@@ -21,7 +21,7 @@ use job::rows::MOST_NEEDS;
 use naming::known::COLUMNS_FROM;
 use naming::sections::{Section, width};
 
-// What stands at a place is one too many.
+// Refused where there is one too many.
 fn too_many(place: Option<usize>) -> Result<(), Fault>
     ensures { refusal_in result ≡ option_map (refusal too_many_parts) place }
 {

@@ -18,7 +18,7 @@ use naming::known::{COLUMNS_FROM, column_of};
 use naming::sections::{Section, width};
 use naming::words::stands_before;
 
-// The name stands before in its line.
+// Refused where the name stands before in its line.
 fn repeated(text: &[u8], from: usize, at: usize) -> Result<(), Fault>
     ensures { (p : ℕ) (before : List Spot) → Between text.now from at before → in_name (byte_at text.now at) ≡ true
         → Run text.now at p → refusal_in result ≡ option_map (λ number. refusal number at) (column_fault before (spot text.now at p)) }
@@ -33,7 +33,7 @@ fn repeated(text: &[u8], from: usize, at: usize) -> Result<(), Fault>
     }
 }
 
-// The name is no column.
+// Refused where the name is no column.
 fn unknown(text: &[u8], at: usize) -> Result<(), Fault>
     ensures { (p q : ℕ) (columns before : List Spot) → Words text.now columns_from q columns → length columns ≤ most_columns
         → Run text.now at p → refusal_in result ≡ option_map (λ number. refusal number at) (need_fault columns before (spot text.now at p)) }
@@ -47,7 +47,7 @@ fn unknown(text: &[u8], at: usize) -> Result<(), Fault>
     }
 }
 
-// What is wrong with a name in a line of this kind.
+// Refused where a name in a line of this kind is at fault.
 fn fault_of(text: &[u8], section: Section, from: usize, at: usize) -> Result<(), Fault>
     ensures { (p q : ℕ) (columns before : List Spot) → Words text.now columns_from q columns → length columns ≤ most_columns
         → Between text.now from at before → in_name (byte_at text.now at) ≡ true → Run text.now at p

@@ -11,7 +11,8 @@ use naming::known::column_in;
 use naming::signs::byte;
 use naming::words::name_end;
 
-// The place behind what was read, and how many marks stand then.
+// The place behind what was read, and how many marks stand then. The marks are a lent slice of any length, filled from the front, so their number goes
+// from reader to reader beside it.
 #[derive(Clone, Copy, Debug, PartialEq, Eq)]
 pub struct Read {
     pub at: usize,

@@ -21,7 +21,8 @@ ghost use Rattle.text.specs.Promises.{Right, Takes, read_of, in_numbers};
 // "Job text at most 8,192 bytes."
 pub const MOST_BYTES: usize = 8192;
 
-// The job, and the names of its columns, 12 bytes for each. Every place without a number or a byte is 0.
+// The job, and the names of its columns, 12 bytes for each. Every place without a number or a byte is 0. There is no heap, so the names are an array, of
+// which the job's columns say how much is filled.
 #[derive(Clone, Copy)]
 pub struct JobRead {
     pub job: Job,
