@@ -1,12 +1,13 @@
 -- The bytes from a place on as far as they pass a test. Assumes nothing.
-use mathlib.Core.Path.{◌≡◌, sym, ap, ◌∙◌}
-use mathlib.Core.Bool.{Bool, true, false, not, true≢false}
-use mathlib.Core.List.{List}
+use mathlib.Core.Path.{◌≡◌, refl, sym, ap, ◌∙◌}
+use mathlib.Core.Bool.{Bool, true, false, cond, not, true≢false}
+use mathlib.Core.List.{List, [], ◌∷◌}
 use Prim.Native.Nat.{ℕ, ◌+◌, ◌-◌, ◌<◌, ◌≤◌}
 use native.Mathlib.Decide.{dec_lt}
+use native.Mathlib.Numerals.{one-add}
 use native.Mathlib.Omega.{arith}
 use lib.Dec.{eqb}
-use lib.ListN.{length, drop, length-drop, get_or-eq_default}
+use lib.ListN.{length, take, drop, length-drop, get_or-eq_default}
 use lib.Seq.{get_or-drop}
 use borrow.Author.Tests.{eqb-true}
 use denote.Param.Members.{Mut}
@@ -20,11 +21,12 @@ use Rattle.std.proofs.lemmas.Iterator.{YieldsList}
 use Rattle.std.proofs.lemmas.Iterator.Consumers.{count_from_yields_List}
 use Rattle.std.proofs.lemmas.Iterator.Search.{YieldsList-from_take_while}
 use Rattle.rules.specs.Options.{Option}
+use Rattle.std.specs.Cmp.Lexicographic.{pointwise}
 use Rattle.std.proofs.lemmas.Bool.{not-false}
 use Rattle.std.proofs.lemmas.List.Folds.{length-prefix_len}
 use Rattle.std.proofs.lemmas.List.Sums.{prefix_len-le-length, prefix_len_passes, prefix_len_stops}
 use Rattle.rules.specs.Signs.{byte_at, in_name, line_end}
-use Rattle.rules.specs.Names.{Run}
+use Rattle.rules.specs.Names.{Run, beginning, name_at, same_name}
 use Rattle.naming.specs.Words.{is_sign, Skips, Ends}
 
 -- what `take_while` and `count` say of a list
@@ -52,20 +54,37 @@ module _ (test : ℕ → Bool) (s : List ℕ) (p : ℕ) where
   pub front_stops : p + so_many < length s → test (byte_at s (p + so_many)) ≡ false
   front_stops h = ap test (sym (get_or-drop p s so_many 0)) ∙ prefix_len_stops test (drop p s) 0 (omega (arith, length-drop p s))
 
--- ---- names, signs and lines
+-- ---- letters and digits
+
+-- the rules' word for the letters and digits that a list begins with is the library's
+beginning_front : (s : List ℕ) → beginning s ≡ take (prefix_len in_name s) s
+unfolding beginning
+beginning_front [] = refl
+beginning_front (b ∷ s) = go (in_name b) (beginning_front s)
+  where
+    go : (t : Bool) → beginning s ≡ take (prefix_len in_name s) s
+        → cond t (b ∷ beginning s) [] ≡ take (cond t (1 + prefix_len in_name s) 0) (b ∷ s)
+    go true e = rw (e, one-add)
+    go false e = refl
 
 -- a byte that ends no line
 abbrev pub goes_on : ℕ → Bool
 goes_on b = not (eqb b line_end)
 
 module _ (s : List ℕ) (p : ℕ) where
-  -- letters and digits end where no byte of a name stands
-  pub name_ends : Run s p (p + so_many in_name s p)
-  name_ends = record {
+  pub name_front : name_at s p ≡ take (so_many in_name s p) (drop p s)
+  name_front = beginning_front (drop p s)
+
+  pub length-name_at : length (name_at s p) ≡ so_many in_name s p
+  length-name_at = ap length name_front ∙ length-prefix_len in_name (drop p s)
+
+  -- they end where no byte of a name stands
+  pub name_ends : Run s p (p + length (name_at s p))
+  name_ends = rw length-name_at (record {
     forward = omega arith;
     goes_on = front_passes in_name s p;
     ends = go (dec_lt (p + so_many in_name s p) (length s));
-  }
+  })
     where
       go : Dec (p + so_many in_name s p < length s) → in_name (byte_at s (p + so_many in_name s p)) ≡ false
       go (yes h) = front_stops in_name s p h
@@ -88,3 +107,11 @@ module _ (s : List ℕ) (p : ℕ) where
     goes_on = λ i l h e. true≢false (sym (front_passes goes_on s p i l h) ∙ ap goes_on e);
     stops = λ h. eqb-true _ line_end (not-false _ (front_stops goes_on s p h));
   }
+
+-- names are compared as the library compares slices
+pub pointwise-eqb : (xs ys : List ℕ) → pointwise eqb xs ys ≡ same_name xs ys
+unfolding same_name
+pointwise-eqb [] [] = refl
+pointwise-eqb [] (y ∷ ys) = refl
+pointwise-eqb (x ∷ xs) [] = refl
+pointwise-eqb (x ∷ xs) (y ∷ ys) = rw (pointwise-eqb xs ys)

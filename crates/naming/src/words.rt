@@ -1,7 +1,7 @@
 // The names of a line, one after the other.
-ghost use Rattle.std.specs.Prelude.{◌≡◌, true, false, List, ℕ};
+ghost use Rattle.std.specs.Prelude.{◌≡◌, true, false, List, ℕ, ◌≤◌, ◌-◌, length};
 ghost use Rattle.rules.specs.Signs.{byte_at, piece, in_name};
-ghost use Rattle.rules.specs.Names.{Spot, spot, Run, same_name};
+ghost use Rattle.rules.specs.Names.{Spot, spot, Run, name_at, same_name};
 ghost use Rattle.rules.specs.Sheets.{stands_in};
 ghost use Rattle.naming.specs.Words.{Skips, Ends, Between};
 
@@ -10,14 +10,21 @@ use crate::signs::{LINE_END, byte, bytes_from, in_name, is_sign};
 // "Names 1 to 12 bytes."
 pub const MOST_NAME_BYTES: usize = 12;
 
-// The place behind the letters and digits from a place on.
+// The letters and digits from a place on.
+pub fn name_at(text: &[u8], at: usize) -> &[u8]
+    ensures is { result.now ≡ name_at text.now at }
+    ensures within { length result.now ≤ length text.now - at }
+{
+    let rest = bytes_from(text, at);
+    let many = rest.iter().take_while(|sign| in_name(**sign)).count();
+    &rest[..many]
+}
+
+// The place behind them.
 pub fn name_end(text: &[u8], at: usize) -> usize
     ensures { Run text.now at result }
 {
-    at + bytes_from(text, at)
-        .iter()
-        .take_while(|sign| in_name(**sign))
-        .count()
+    at + name_at(text, at).len()
 }
 
 // The place of the next name of a line from a place on, or of the line's end.
