@@ -4,3 +4,4 @@ pub mod CountedLines
 pub mod Located
 pub mod Opened
 pub mod Promises
+pub mod Wrongs

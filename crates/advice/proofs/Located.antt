@@ -32,6 +32,10 @@ pub located_first : (s : List ℕ) → Located s 0 (record { line = 1; column = 
 located_first s = record { lines = omega arith; columns = omega arith; is = sym (behind_none s) }
 
 module _ {s : List ℕ} {i : ℕ} {found : Found} (l : Located s i found) where
+  -- at the place itself
+  pub located_there : (place : ℕ) → i ≡ place → position_in found ≡ position_of s place
+  located_there place e = l.is ∙ ap (position_of s) e
+
   -- behind all bytes before a place
   pub located_all : (text : List ℕ) (place : ℕ) → s ≡ take place text → length s ≤ i → position_in found ≡ position_of text place
   unfolding position_of

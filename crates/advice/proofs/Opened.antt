@@ -1,5 +1,5 @@
 -- Brackets counted byte by byte. Assumes nothing.
-use mathlib.Core.Path.{◌≡◌, refl, sym, ◌∙◌}
+use mathlib.Core.Path.{◌≡◌, refl, sym, ◌∙◌, ap}
 use mathlib.Core.Bool.{cond}
 use mathlib.Core.List.{List, [], ◌∷◌, ◌++◌}
 use Prim.Native.Nat.{ℕ, ◌+◌, ◌-◌, ◌≤◌, ◌<◌}
@@ -26,6 +26,10 @@ pub record Opened (s : List ℕ) (i opened : ℕ) : Type 0 where
 pub opened_none : (s : List ℕ) → Opened s 0 0
 unfolding open_after
 opened_none s = record { few = omega arith; is = refl }
+
+-- behind all bytes before a place
+pub opened_all : {s : List ℕ} {i opened place : ℕ} → Opened s i opened → i ≡ place → opened ≡ open_after 0 (take place s)
+opened_all {s} o e = o.is ∙ ap (λ (k : ℕ). open_after 0 (take k s)) e
 
 module _ {s : List ℕ} {i opened : ℕ} (o : Opened s i opened) (h : i < length s) where
   opened_more : open_after 0 (take (i + 1) s) ≡ open_after opened (byte_at s i ∷ [])

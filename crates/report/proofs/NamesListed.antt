@@ -18,6 +18,7 @@ use Rattle.rules.proofs.Lists.{and_parts, every_in, get_d_in}
 use Rattle.rules.proofs.ListTests.{keep_append}
 use Rattle.rules.proofs.Counting.{up_from_last}
 use Rattle.rules.proofs.Pages.{joined_names_one, joined_names_more}
+use Rattle.writing.specs.Added.{Adds}
 use Rattle.writing.specs.Puts.{Puts}
 use Rattle.writing.specs.declared.Page.{Page}
 use Rattle.writing.proofs.Adding.{adds_nothing, adds_both}
@@ -102,14 +103,19 @@ module _ {table : List ℕ} {names : List (List ℕ)} (is : Named table names) (
   whole_name : {i : ℕ} → most_name_bytes ≤ i → get_or names c [] ≡ take i (get_or names c [])
   whole_name {i} h = sym (take_all i (get_or names c []) (omega (arith, h, name_short)))
 
+  -- so what is added of it is all of it
+  pub name_full_lem : {i : ℕ} → most_name_bytes ≤ i → {at last : ℕ} {page new : List ℕ} → Adds (take i (get_or names c [])) at page last new
+      → Adds (get_or names c []) at page last new
+  name_full_lem {i} h a = rw (take_all i (get_or names c []) (omega (arith, h, name_short))) at a
+
 -- the first i bytes of a column's name are put
 abbrev pub Spelt : List ℕ → ℕ → ℕ → Page → Page → Type 0
 Spelt table c i = PutsNamed table (λ names. take i (get_or names c []))
 
 module _ {table : List ℕ} (c i : ℕ) {before between : Page} (a : Spelt table c i before between) where
   -- behind 12 bytes it is the whole name
-  pub name_full_lem : most_name_bytes ≤ i → PutsNamed table (λ names. get_or names c []) before between
-  name_full_lem h = named_as a λ names is. whole_name is c h
+  pub name_whole : most_name_bytes ≤ i → PutsNamed table (λ names. get_or names c []) before between
+  name_whole h = named_as a λ names is. whole_name is c h
 
   module _ {sign : ℕ} (few : i < most_name_bytes) (here : sign ≡ get_or table (most_name_bytes * c + i) 0) where
     -- a byte that is not 0 belongs to it
