@@ -21,6 +21,9 @@ pub record Filled (gain lean possible : ℕ → ℕ) (below : ℕ) : Type 0 wher
   pub leans : (s : ℕ) → s < below → Leans gain s (lean s)
   pub bound : (around s : ℕ) → around < below → Inside around s → contains (possible around) (gain s) ≡ true
 
+pub filled_none : (gain lean possible : ℕ → ℕ) → Filled gain lean possible 0
+filled_none gain lean possible = record { leans = λ s l. absurd (omega arith); bound = λ around s l inside. absurd (omega arith) }
+
 -- a set more has its places in both tables
 pub filled_more : (gain : ℕ → ℕ) (lean possible : List ℕ) (s gained all : ℕ) → s < 2 ^ 16 → s < length lean → s < length possible
     → Filled gain (in_table lean) (in_table possible) s → Leans gain s gained → Gathers gain (in_table possible) 16 s all

@@ -3,6 +3,7 @@ pub mod Prices
 pub mod Serving
 pub mod Servables
 pub mod Firsts
+pub mod Tried
 pub mod Tasks
 pub mod Trying
 pub mod Nexts

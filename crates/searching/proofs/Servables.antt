@@ -27,6 +27,11 @@ module _ (gain price : ℕ → ℕ) where
   unfolding Serves total
   nothing_unmet most free unmet cost e = record { split = []; few = omega arith; cheap = omega arith; serves = e }
 
+  pub servable_dearer : (most free unmet cost more : ℕ) → cost ≤ more → Servable gain price most free unmet cost
+      → Servable gain price most free unmet more
+  servable_dearer most free unmet cost more l v =
+      record { split = v.split; few = v.few; cheap = omega (arith, v.cheap); serves = v.serves }
+
   pub no_set_left : (free unmet cost : ℕ) → Servable gain price 0 free unmet cost → unmet ≡ 0
   unfolding Serves
   no_set_left free unmet cost v = go v.split v.few v.serves

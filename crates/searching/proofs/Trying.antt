@@ -1,7 +1,7 @@
 -- Laws of trying the sets of the free columns one after the other: what is known after each, and what the answer then is. Assumes nothing.
 use mathlib.Core.Path.{◌≡◌, refl, sym, subst}
 use mathlib.Core.Bool.{Bool, true, false, ◌&&◌}
-use Prim.Native.Nat.{ℕ, suc, ◌-◌, ◌^◌, ◌<◌}
+use Prim.Native.Nat.{ℕ, suc, ◌-◌, ◌^◌, ◌≤◌, ◌<◌}
 use native.Mathlib.Nat.{lt_of_le_of_lt}
 use native.Mathlib.Omega.{arith}
 use lib.Dec.{eqb, leb}
@@ -93,6 +93,9 @@ module _ (lean price : ℕ → ℕ) (task : Task) (wanted : ℕ) where
   not_suitable s e w =
       holds_fails (contains (lean s) wanted && leb (price s) task.cost)
       (and_both (contains (lean s) wanted) (leb (price s) task.cost) w.meets (le-leb (price s) task.cost w.payable)) e
+
+  pub suitable_payable : (s : ℕ) → (contains (lean s) wanted && leb (price s) task.cost) ≡ true → price s ≤ task.cost
+  suitable_payable s e = leb-true (price s) task.cost (and_parts (contains (lean s) wanted) (leb (price s) task.cost) e).1
 
   pub not_served : (s : ℕ) (rest : Task) → rest ≡ left_after price task s (lean s) → (ServableFrom lean price rest → ⊥) → Will s → ⊥
   not_served s rest l n w = n (subst (λ (r : Task). ServableFrom lean price r) (sym l) w.rest)

@@ -5,7 +5,7 @@ use Prim.Native.Nat.{ℕ, ◌+◌, ◌-◌, ◌*◌, ◌%◌, ◌^◌, ◌≤◌
 use native.Mathlib.Decide.{dec_lt}
 use native.Mathlib.Omega.{arith}
 use lib.ListN.{length}
-use lib.Pow.{pow_mono}
+use lib.Pow.{pow_mono, pow_pos}
 use Rattle.rules.specs.Sets.{full}
 use Rattle.rules.proofs.Orders.{not_after_trans}
 use Rattle.parts.specs.Parts.{Leaned, Tabled}
@@ -23,6 +23,10 @@ all_columns_lem columns l = ap full (omega arith)
 
 pub all_needs_lem : (needs : ℕ) → needs ≤ 8 → 1 * 2 ^ needs % 65536 - 1 ≡ full needs
 all_needs_lem needs l = omega (arith, pow_mono {i = needs} {j = 8} l)
+
+-- the number of the needs has eight bits, and there is one to take away
+pub needs_fit : (needs : ℕ) → needs ≤ 8 → (1 ≤ 1 * 2 ^ needs % 65536) × (1 * 2 ^ needs % 65536 - 1 < 256)
+needs_fit needs l = (omega (arith, pow_mono {i = needs} {j = 8} l, pow_pos needs), omega (arith, pow_mono {i = needs} {j = 8} l))
 
 -- ---- the least number of sets, and the least cost of so many
 

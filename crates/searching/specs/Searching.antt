@@ -23,6 +23,11 @@ left_after price task s gained =
 abbrev pub Wanted : ℕ → ℕ → ℕ → Type 0
 Wanted extracts unmet wanted = ((extracts ≡ 1) × (wanted ≡ unmet)) ⊎ ((k : ℕ) × (k < 8) × (has k unmet ≡ true) × (wanted ≡ 2 ^ k))
 
+-- the one found so far, or the further need if that is unmet; 8 is none
+pub record Rarer (unmet found need rarer : ℕ) : Type 0 where
+  pub either : (rarer ≡ found) ⊎ ((rarer ≡ need) × (has need unmet ≡ true))
+  pub some : has need unmet ≡ true → rarer < 8
+
 -- the set is the next of a best list
 abbrev pub Next : (gain price : ℕ → ℕ) → Task → ℕ → Type 0
 Next gain price task s = Completes gain price (task.extracts - 1) task.free.bits task.unmet task.cost s
