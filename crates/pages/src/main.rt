@@ -12,6 +12,7 @@ use std::io;
 const MOST_READ: usize = 65536;
 
 fn main(rt: HostRuntime) -> io::Result<()> {
+    // no heap is taken, so the input is an array that is cut to what came
     let mut input = [0u8; MOST_READ];
     let (end, outcome) = fill(&mut rt.stdin(), &mut input);
     outcome?;

@@ -15,6 +15,7 @@ const MOST_READ: usize = MOST_BYTES + 1;
 const MOST_SENTENCE: usize = 256;
 
 fn main(rt: HostRuntime) {
+    // no heap is taken, so the text is an array that is cut to what came
     let mut text = [0u8; MOST_READ];
     // An input that can't be read on ends there.
     let (length, _) = fill(&mut rt.stdin(), &mut text);
