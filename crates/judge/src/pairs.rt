@@ -40,16 +40,19 @@ pub fn first_forbidden(forbidden: &[u16], split: &[u16]) -> Option<(usize, usize
     None
 }
 
-// The first extract that shares a column with a later one, and the first such one.
+// The first extract that shares a column with a later one, and the first such one. The rules name this search: pairs, one loop within the other, left by a
+// label at the first that shares.
 pub fn first_sharing(split: &[u16]) -> Option<(usize, usize)>
     ensures { (job : Job) → places_of result ≡ first_sharing job split.now }
 {
-    for i in 0..split.len() {
+    let mut found = None;
+    'search: for i in 0..split.len() {
         for j in i + 1..split.len() {
             if !unlinked(split[i], split[j]) {
-                return Some((i, j));
+                found = Some((i, j));
+                break 'search;
             }
         }
     }
-    None
+    found
 }
