@@ -69,6 +69,7 @@ pub fn needs_fit(columns: u16, marks: &[u16]) -> Option<usize>
 {
     let mut count = 0;
     let mut from = 0;
+    // from need to need: a step is as long as the need that was found, so there is no range to go over
     while from < marks.len() {
         let to = rows::end_of_need(marks, from);
         if to == marks.len() || count == MOST_NEEDS || !need_fit(columns, &marks[from..to]) {

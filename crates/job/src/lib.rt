@@ -18,7 +18,7 @@ pub const MOST_FORBIDDEN: usize = 32;
 
 pub const MOST_MARKS: usize = 512;
 
-// The numbers of a fit job. Places without a number are 0.
+// The numbers of a fit job. Places without a number are 0: the C interface hands out all places, the unused ones too, so the counts stand beside them.
 #[derive(Clone, Copy)]
 pub struct Job {
     pub columns: u16,

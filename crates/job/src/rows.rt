@@ -10,7 +10,7 @@ pub const MOST_NEEDS: usize = 8;
 
 pub const MOST_NEED_MARKS: usize = 63;
 
-// A mark below these is a column.
+// A mark below these is a column. Marks stay numbers, because C lends them as numbers and a need is a part of what is lent.
 pub const AND_MARK: u16 = 16;
 
 pub const OR_MARK: u16 = 17;
@@ -38,7 +38,7 @@ fn row_of(need: &[u16]) -> [u16; MOST_NEED_MARKS]
     row
 }
 
-// The needs that the marks stand for, each in its row. Of any marks, as much as there is room for.
+// The needs that the marks stand for, each in its row, by value in fixed memory. Of any marks, as much as there is room for.
 pub fn rows_of(marks: &[u16]) -> [[u16; MOST_NEED_MARKS]; MOST_NEEDS]
     ensures { result ≡ rows_of (rows marks.now) }
 {

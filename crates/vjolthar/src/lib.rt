@@ -1,5 +1,6 @@
 // The library as other languages call it, by the exports of `vjolthar_c`: every public call over numbers and slices alone. A call's answer is a struct or an
-// enum, which is no form that other languages share; so each function here returns the refusal's number and hands out the others one by one.
+// enum, which is no form that other languages share; so each function here returns the refusal's number and hands out the others one by one,
+// and takes numbers and slices one by one.
 #![tactic(auto)]
 
 use job::refusals::Refusal;
