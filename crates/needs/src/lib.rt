@@ -1,7 +1,7 @@
 // A need, as a row of marks, evaluated on sets of columns: on 64 sets at once, each a bit of a word, or on one.
 #![tactic(auto)]
 
-ghost use Rattle.std.specs.Prelude.{◌≡◌, ◌+◌, ◌-◌, ◌<◌, ◌≤◌, slice_set, get_or};
+ghost use Rattle.std.specs.Prelude.{◌≡◌};
 ghost use Rattle.rules.specs.Options.{Some};
 ghost use Rattle.rules.specs.Sets.{has};
 ghost use Rattle.rules.specs.Needs.{Need, meets};
@@ -39,50 +39,25 @@ pub fn column_lanes(column: u16, block: u16) -> u64
 pub fn met_lanes(row: &[u16; MOST_NEED_MARKS], block: u16) -> u64
     ensures { (v : Need) → need_of (before_end row.now) ≡ Some v → Lanes block (meets v) result }
 {
-    let mut operands = Operands {
-        words: [0; MOST_NEED_MARKS],
-        count: 0,
-    };
-    // The marks are the numbers that callers lend, so they are matched as numbers.
+    // The operands stand in fixed memory, of which so many words are in use. As fields of a struct the words and their count take this loop a third longer.
+    let mut operands = [0u64; MOST_NEED_MARKS];
+    let mut count = 0;
     for &mark in row {
         match mark {
             END_MARK => break,
-            AND_MARK | OR_MARK => operands.join(mark),
-            column => operands.push(column_lanes(column, block)),
+            AND_MARK | OR_MARK => {
+                if 1 < count {
+                    operands[count - 2] = joined(mark, operands[count - 2], operands[count - 1]);
+                    count -= 1;
+                }
+            }
+            column => {
+                operands[count] = column_lanes(column, block);
+                count += 1;
+            }
         }
     }
-    operands.words[0]
-}
-
-// The operands of a need as words of lanes, the last one last. The words stand in fixed memory, of which so many are in use.
-#[derive(Drop)]
-struct Operands {
-    words: [u64; MOST_NEED_MARKS],
-    count: usize,
-}
-
-impl Operands {
-    // One more operand.
-    fn push(&mut self, word: u64)
-        requires { self.old.count < MOST_NEED_MARKS }
-        ensures { self.new ≡ record { words = slice_set self.old.words self.old.count word; count = self.old.count + 1 } }
-    {
-        self.words[self.count] = word;
-        self.count += 1;
-    }
-
-    // The last two operands become one. Fewer than two stay as they are.
-    fn join(&mut self, mark: u16)
-        requires { self.old.count ≤ MOST_NEED_MARKS }
-        ensures two { let words = self.old.words in let left = self.old.count - 2 in let right = self.old.count - 1 in 1 < self.old.count → self.new ≡ record { words = slice_set words left (joined_word mark (get_or words left 0) (get_or words right 0)); count = self.old.count - 1 } }
-        ensures fewer { self.old.count ≤ 1 → self.new ≡ self.old }
-    {
-        if 1 < self.count {
-            let (left, right) = (self.words[self.count - 2], self.words[self.count - 1]);
-            self.words[self.count - 2] = joined(mark, left, right);
-            self.count -= 1;
-        }
-    }
+    operands[0]
 }
 
 // Two operands joined, lane by lane.

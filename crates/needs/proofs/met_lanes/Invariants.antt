@@ -4,4 +4,4 @@ use Rattle.needs.proofs.OperandWords.{Read}
 use Rattle.needs.proofs.met_lanes.Given as goal
 
 abbrev pub invariant-loop-mark : goal.invariant-loop-mark
-invariant-loop-mark l = Read l.block l.row l.mark-index l.operands.words l.operands.count
+invariant-loop-mark l = Read l.block l.row l.mark-index l.operands l.count
