@@ -2,10 +2,10 @@
 use mathlib.Core.Path.{◌≡◌, refl, ◌∙◌}
 use mathlib.Core.Bool.{true, false}
 use mathlib.Core.List.{List, []}
-use Prim.Native.Nat.{ℕ, ◌≤◌, ◌<◌}
+use Prim.Native.Nat.{ℕ, ◌≤◌}
 use lib.Dec.{ltb}
 use lib.ListN.{length, replicate, length-replicate}
-use borrow.Author.Tests.{lt-ltb, le-ltb, ltb-false}
+use borrow.Author.Tests.{ltb-false}
 use Rattle.rules.specs.Lists.{written}
 use Rattle.rules.specs.Readings.{Reading, refused, taken}
 use Rattle.rules.proofs.Lists.{or_neither}
@@ -34,7 +34,7 @@ pub filled : {s : List ℕ} {r : Answer} → Takes s r → Filled r
 filled a = rw a.answered (reading_filled a.reading)
 
 module _ (s : List ℕ) (old : JobSlices) where
-  short_hands : too_short old ≡ true → Hands s old not_handed old
+  pub short_hands : too_short old ≡ true → Hands s old not_handed old
   short_hands short =
       let (w, reads) = some_reading s in
       record {
@@ -44,31 +44,11 @@ module _ (s : List ℕ) (old : JobSlices) where
         lent = rw short refl;
       }
 
-  pub forbidden_short : length old.forbidden < 32 → Hands s old not_handed old
-  unfolding too_short
-  forbidden_short h = short_hands (rw (lt-ltb (length old.forbidden) 32 h) refl)
-
-  pub marks_short : 32 ≤ length old.forbidden → length old.marks < 512 → Hands s old not_handed old
-  unfolding too_short
-  marks_short f h = short_hands (rw (le-ltb (length old.forbidden) 32 f, lt-ltb (length old.marks) 512 h) refl)
-
-  module _ (f : 32 ≤ length old.forbidden) (m : 512 ≤ length old.marks) where
-    pub names_short : length old.names < table_bytes → Hands s old not_handed old
-    unfolding too_short
-    names_short h =
-        short_hands
-        (rw (le-ltb (length old.forbidden) 32 f, le-ltb (length old.marks) 512 m, lt-ltb (length old.names) table_bytes h) refl)
-
-    long : table_bytes ≤ length old.names → too_short old ≡ false
-    unfolding too_short
-    long n = rw (le-ltb (length old.forbidden) 32 f, le-ltb (length old.marks) 512 m, le-ltb (length old.names) table_bytes n) refl
-
-    pub hands_read : table_bytes ≤ length old.names → {r : Answer} → Takes s r → {new : JobSlices} → new.forbidden ≡ written r.job.forbidden old.forbidden
-        → new.marks ≡ written r.job.marks old.marks → new.names ≡ written r.names old.names
-        → Hands s old (numbers_of r) new
-    unfolding slices_with
-    hands_read n {r} a in_forbidden in_marks in_names =
-        record { read = r; takes = a; answered = rw (long n) refl; lent = rw (long n) (rw (in_forbidden, in_marks, in_names) refl) }
+  pub hands_read : too_short old ≡ false → {r : Answer} → Takes s r → {new : JobSlices} → new.forbidden ≡ written r.job.forbidden old.forbidden
+      → new.marks ≡ written r.job.marks old.marks → new.names ≡ written r.names old.names → Hands s old (numbers_of r) new
+  unfolding slices_with
+  hands_read long {r} a in_forbidden in_marks in_names =
+      record { read = r; takes = a; answered = rw long refl; lent = rw long (rw (in_forbidden, in_marks, in_names) refl) }
 
 -- slices that are not too short have room for what is read
 pub record Rooms (old : JobSlices) : Type 0 where

@@ -20,7 +20,7 @@ ghost use Rattle.diagram.specs.Promises.{Draws, Lists};
 ghost use Rattle.planner.specs.Promises.{Plans};
 ghost use Rattle.report.specs.Promises.{Reports};
 ghost use Rattle.vjolthar.specs.Verdicts.{Tells};
-ghost use Rattle.vjolthar.specs.Handed.{Hands};
+ghost use Rattle.vjolthar.specs.Handed.{too_short, Hands};
 
 // `text::read`. The job that was read is written over the first 32, 512 and 192 places of the slices, its unused places too.
 pub fn vjolthar_read(
@@ -51,7 +51,7 @@ pub fn vjolthar_read(
     *sets = 0;
     *needs = 0;
     *marked = 0;
-    if forbidden.len() < MOST_FORBIDDEN || marks.len() < MOST_MARKS || names.len() < NAMES {
+    if too_short(forbidden, marks, names) {
         return u16::from(Refusal::SliceTooShort);
     }
     let (refusal, at, read) = match text::read(text) {
@@ -68,6 +68,14 @@ pub fn vjolthar_read(
     *needs = job.needs;
     *marked = job.marked;
     refusal
+}
+
+// Whether one of the slices has fewer places than the job as a value.
+#[tactic(auto, unfolding(crate::specs::Handed::too_short))]
+fn too_short(forbidden: &[u16], marks: &[u16], names: &[u8]) -> bool
+    ensures { result ≡ too_short (record { forbidden = forbidden.now; marks = marks.now; names = names.now }) }
+{
+    forbidden.len() < MOST_FORBIDDEN || marks.len() < MOST_MARKS || names.len() < NAMES
 }
 
 // What is handed out of a text that is refused: a job with no columns, sets or marks, and no names.
