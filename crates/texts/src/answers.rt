@@ -62,5 +62,7 @@ fn add_job(checksum: &mut Checksum, read: &JobRead) {
     checksum.add(job.marked as u64);
     checksum.add_all(&job.marks);
     checksum.add_all(&job.forbidden);
-    checksum.add_all(&read.names);
+    for byte in &read.names {
+        checksum.add((*byte).into());
+    }
 }

@@ -1,7 +1,7 @@
 // Slices that are lent to a call: what they hold before it, and what of that is left after it.
 ghost use Rattle.std.specs.Prelude.{◌≡◌, ◌≤◌, ◌-◌, ◌==◌, length, take, count_by};
 
-/// As many places of an array as a case lends to a call. Before the call every place holds the same number.
+// As many places of an array as a case lends to a call. Before the call every place holds the same number.
 #[derive(Clone, Copy)]
 pub struct Lent<const MOST: usize, const BEFORE: u16> {
     places: [u16; MOST],
@@ -34,7 +34,7 @@ impl<const MOST: usize, const BEFORE: u16> Lent<MOST, BEFORE> {
         &mut places[..room]
     }
 
-    /// How many places hold what they held before, and how many another number.
+    // How many places hold what they held before, and how many another number.
     pub fn untouched(&self) -> usize
         ensures { result ≡ count_by (λ x. x == BEFORE) (take self.now.room self.now.places) }
     {

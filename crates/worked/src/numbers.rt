@@ -1,4 +1,4 @@
-// The numbers of a job on one line, and what is answered in numbers.
+// The numbers of a job as one value, and what is answered in numbers.
 ghost use Rattle.std.specs.Prelude.{◌≡◌, MatchResult};
 ghost use Rattle.job.specs.Refusals.{number_of};
 
@@ -17,7 +17,7 @@ pub fn numbers<'a>(columns: usize, forbidden: &'a [u16], marks: &'a [u16]) -> Nu
     }
 }
 
-/// 0 and what was answered, or the refusal's number and what stands for no answer.
+// 0 and what was answered, or the refusal's number and what stands for no answer.
 pub fn in_numbers<T: Copy>(answer: Result<T, Refusal>, none: T) -> (u16, T)
     ensures { MatchResult answer (λ x. result ≡ (0, x)) (λ refusal. result ≡ (number_of refusal, none)) }
 {
