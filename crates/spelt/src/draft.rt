@@ -1,10 +1,11 @@
 // A text that is put together byte for byte.
-ghost use Rattle.std.specs.Prelude.{◌≡◌, ◌+◌, ◌≤◌, length, min, take};
+ghost use Rattle.std.specs.Prelude.{◌≡◌, ◌+◌, ◌-◌, ◌*◌, ◌≤◌, length, min, take};
 
 // More bytes than a text may have.
 pub const ROOM: usize = 8200;
 
-/// The bytes that have been put so far. Where there is no room, nothing more is put.
+// The bytes that have been put so far. Where there is no room, nothing more is put. `writing::Page` puts bytes in the same way on a page that is lent to
+// it; a draft owns its bytes, so that `spell` can give it away.
 #[derive(Clone, Copy)]
 pub struct Draft {
     bytes: [u8; ROOM],
@@ -20,13 +21,6 @@ impl Draft {
             bytes: [0; ROOM],
             filled: 0,
         }
-    }
-
-    /// How many bytes there are.
-    pub fn len(&self) -> usize
-        ensures { result ≡ self.now.filled }
-    {
-        self.filled
     }
 
     pub fn as_bytes(&self) -> &[u8]
@@ -52,13 +46,23 @@ impl Draft {
         }
     }
 
-    /// The bytes from a place on, put behind the text until they stand so many times.
-    pub fn repeat(&mut self, from: usize, times: usize) {
+    // The bytes from a place on, put behind the text until they stand so many times.
+    pub fn repeat(&mut self, from: usize, times: usize)
+        ensures { self.new.filled ≡ min (self.old.filled + (times - 1) * (self.old.filled - from)) 8200 }
+    {
         let to = self.filled;
         for _ in 1..times {
-            for place in from..to {
-                self.put(self.bytes[place]);
-            }
+            self.put_again(from, to);
+        }
+    }
+
+    // The bytes from one place to another, put behind the text once more.
+    fn put_again(&mut self, from: usize, to: usize)
+        requires { to ≤ self.now.filled }
+        ensures { self.new.filled ≡ min (self.old.filled + (to - from)) 8200 }
+    {
+        for place in from..to {
+            self.put(self.bytes[place]);
         }
     }
 }

@@ -5,7 +5,7 @@ ghost use Rattle.std.specs.Slice.Iter.{iter_rest};
 use crate::draft::Draft;
 use std::slice::Iter;
 
-/// The text of a spelling, which ends at a line end.
+// The text of a spelling, which ends at a line end.
 pub fn spell(spelling: &[u8]) -> Draft {
     let mut text = Draft::new();
     let mut unit = 0;
@@ -25,7 +25,7 @@ fn escaped(signs: &mut Iter<'_, u8>, text: &mut Draft, unit: &mut usize)
     ensures { length (iter_rest signs.new) ≤ length (iter_rest signs.old) }
 {
     match next(signs) {
-        b'{' => *unit = text.len(),
+        b'{' => *unit = text.as_bytes().len(),
         b'}' => text.repeat(*unit, decimal(signs)),
         b'x' => text.put(16 * hex(next(signs)) + hex(next(signs))),
         b'n' => text.put(b'\n'),

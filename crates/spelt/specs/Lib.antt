@@ -1,0 +1,2 @@
+-- What the contracts of spelt cite.
+pub mod Walks
