@@ -12,7 +12,6 @@ mod counted; // counted.rt: how many lines the number at the end has to count
 mod words; // words.rt: the words for too many
 mod remedy; // remedy.rt: the words for every refusal of a text
 
-ghost use Rattle.job.specs.Refusals.{number_of};
 ghost use Rattle.writing.specs.Added.{Holds};
 ghost use Rattle.writing.specs.Puts.{Puts};
 ghost use Rattle.advice.specs.Sentences.{sentence};

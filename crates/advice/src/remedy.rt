@@ -27,7 +27,7 @@ pub fn put_located(page: &mut Page, position: Position)
     page.put(b": ");
 }
 
-// Puts what is wrong with a text and what to do, by the number of its refusal.
+// Puts what is wrong with a text and what to do, by its refusal.
 #[tactic(auto, unfolding(crate::specs::Sentences::remedy))]
 pub fn put_remedy(page: &mut Page, spot: Spot, refusal: Refusal)
     ensures { Puts (remedy spot.entry.text.now (number_of refusal) spot.entry.place (position_in spot.entry.position)) page.old page.new }

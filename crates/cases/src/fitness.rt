@@ -1,4 +1,5 @@
 // Each way in which numbers can be unfit, beside the limit that is still fit.
+// The cases are calls, one after the other: in a table of tuples each would take as many lines, and the calls say what they do.
 use job::Numbers;
 use std::io;
 use worked::numbers::numbers;

@@ -1,4 +1,5 @@
 // Each answer of the judge, with the smallest indices; and the mistakes that look right.
+// The cases are calls, one after the other: in a table of tuples each would take as many lines, and the calls say what they do.
 use crate::verdict;
 use job::Numbers;
 use std::io;

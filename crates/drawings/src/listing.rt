@@ -1,5 +1,6 @@
 // Cases of the one-paths: the published ones, path slices that are just long enough or not, and a diagram of thousands of nodes. A line has
 // the answer, the first nodes and paths that were written, how many places of the five slices hold what they held before, and a checksum of all.
+// The cases are calls, one after the other: in a table of tuples each would take as many lines, and the calls say what they do.
 use crate::lent::{NONE_LISTED, Nodes, Paths, Rooms};
 use job::Numbers;
 use std::io;

@@ -47,7 +47,7 @@ fn unknown(text: &[u8], at: usize) -> Result<(), Fault>
     }
 }
 
-// Refused where a name in a line of this kind is at fault.
+// Refused where a name in a line of this kind is at fault. A test for each kind would be chosen by the same match.
 fn fault_of(text: &[u8], section: Section, from: usize, at: usize) -> Result<(), Fault>
     ensures { (p q : ℕ) (columns before : List Spot) → Words text.now columns_from q columns → length columns ≤ most_columns
         → Between text.now from at before → in_name (byte_at text.now at) ≡ true → Run text.now at p

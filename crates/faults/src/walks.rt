@@ -1,4 +1,5 @@
-// Walks over a text: the names of a line, and the lines of a section.
+// Walks over a text: the names of a line, and the lines of a section. One is told by a byte and goes on past signs, the other by a key and goes on past a
+// line; what they share is the trait Iterator.
 ghost use Rattle.std.specs.Prelude.{◌-◌, length};
 ghost use Rattle.std.specs.Iterator.{at_most};
 ghost use Rattle.faults.specs.Walks.{NamesFrom, GivesName, LinesFrom, GivesLine};

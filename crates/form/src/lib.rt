@@ -3,7 +3,7 @@
 
 use machine::State;
 
-mod keys; // keys.rt: keys that begin alike
+mod keys; // keys.rt: a key while it is read
 mod machine; // machine.rt: the machine that takes a text byte by byte
 mod order; // order.rt: which sections may follow which
 

@@ -12,6 +12,8 @@ use naming::sections::{Section, key_byte, width};
 use naming::signs::{LINE_END, MOST_BRACKETS, digit, in_name, letter};
 use naming::words::MOST_NAME_BYTES;
 
+// The machine's states, each with what it has of the bytes so far: of the shape of neither an option nor a result, and a match on them is the machine.
+
 // What stands of the end line's number: no digit yet, the digit 0, another one, two digits.
 #[derive(Clone, Copy)]
 pub enum Digits {
@@ -231,9 +233,8 @@ fn on_digit(digits: Digits, byte: u8) -> State
                 State::Number(Digits::Other)
             }
         }
-        Digits::Zero => State::Wrong,
         Digits::Other => State::Number(Digits::Two),
-        Digits::Two => State::Wrong,
+        Digits::Zero | Digits::Two => State::Wrong,
     }
 }
 
@@ -243,9 +244,7 @@ fn number_ending(digits: Digits) -> State
 {
     match digits {
         Digits::Nothing => State::Wrong,
-        Digits::Zero => State::Done,
-        Digits::Other => State::Done,
-        Digits::Two => State::Done,
+        Digits::Zero | Digits::Other | Digits::Two => State::Done,
     }
 }
 

@@ -37,7 +37,7 @@ fn mark_unfit(columns: u16, mark: u16) -> bool
 fn column_marks(mark: u16) -> usize
     ensures { result ≡ cond (ltb mark and_mark) 1 0 }
 {
-    if mark < AND_MARK { 1 } else { 0 }
+    usize::from(mark < AND_MARK)
 }
 
 // Whether the marks of one need are fit.

@@ -40,7 +40,7 @@ pub fn first_forbidden(forbidden: &[u16], split: &[u16]) -> Option<(usize, usize
     None
 }
 
-// The first extract that shares a column with a later one, and the first such one. The rules name this search: pairs, one loop within the other, left by a
+// The first extract that shares a column with a later one, and the first such one. 01 names this search: pairs, one loop within the other, left by a
 // label at the first that shares.
 pub fn first_sharing(split: &[u16]) -> Option<(usize, usize)>
     ensures { (job : Job) → places_of result ≡ first_sharing job split.now }

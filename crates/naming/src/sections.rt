@@ -1,12 +1,10 @@
 // The sections of a job text: its kinds of lines, each told by the key that its lines begin with.
-ghost use Rattle.std.specs.Prelude.{◌≡◌, true, false, ◌&&◌, List, ℕ, ◌+◌, ◌<◌, ◌≤◌, length, get_or};
+ghost use Rattle.std.specs.Prelude.{◌≡◌, true, false, ◌&&◌, List, ℕ, ◌+◌, ◌<◌, ◌≤◌, length};
 ghost use Rattle.rules.specs.Signs.{byte_at, Says, says_at};
 ghost use Rattle.rules.specs.Names.{Spot};
 ghost use Rattle.naming.specs.Words.{Words};
-ghost use Rattle.naming.specs.Sections.{key_of, width_of, counted, counted_at, sections};
-ghost use Rattle.naming.specs.declared.sections.Section.TheVariants.{End};
+ghost use Rattle.naming.specs.Sections.{key_of, width_of, counted, counted_at};
 
-use crate::known::COLUMNS_FROM;
 use crate::signs::{byte, stands};
 use crate::words::line_end;
 

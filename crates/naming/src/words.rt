@@ -1,4 +1,5 @@
-// The names of a line, one after the other.
+// The names of a line, one after the other. A text and a place stay two parameters, since each caller has a place of its own at each step, in a text that it
+// holds anyway.
 ghost use Rattle.std.specs.Prelude.{◌≡◌, true, false, List, ℕ, ◌≤◌, ◌-◌, length};
 ghost use Rattle.rules.specs.Signs.{byte_at, piece, in_name};
 ghost use Rattle.rules.specs.Names.{Spot, spot, Run, name_at, same_name};

@@ -1,4 +1,5 @@
 // Worked cases of what the program `split` writes. Standard input has a case a line, its name and its text; what they give is compared with `stdout`.
+// How it is read stands in each such program: a function for it would hand back an array with its length.
 #![tactic(auto)]
 
 mod shown; // shown.rt: one call, and what it leaves

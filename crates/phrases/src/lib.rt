@@ -20,7 +20,7 @@ pub struct Read {
 }
 
 // Each reader is called where such a phrase stands, with room for its marks. The or-list, the and-list and the item are three readers that call each other
-// in a cycle, as the rules have them: one reader of both kinds of list would need a fourth that chooses between a list and an item. A list goes on where its
+// in a cycle, as 01 names them: one reader of both kinds of list would need a fourth that chooses between a list and an item. A list goes on where its
 // operand ended, so its loop is no walk over a range.
 #[cycle(and_list_item_or_list)]
 pub fn or_list(text: &[u8], at: usize, marks: &mut [u16], marked: usize) -> Read

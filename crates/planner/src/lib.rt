@@ -2,7 +2,6 @@
 // written as rising numbers, the one whose first differing number is smaller.
 #![tactic(auto)]
 
-ghost use Rattle.std.specs.Prelude.{◌≡◌};
 ghost use Rattle.job.specs.Given.{given};
 ghost use Rattle.planner.specs.Promises.{Plans, in_numbers};
 
@@ -14,7 +13,7 @@ use job::refusals::Refusal;
 pub const MOST_EXTRACTS: usize = 8;
 
 // Writes the planner's split over the first places of the slice, which has 8 places or more, and answers how many extracts it has; a refusal
-// writes nothing. The slice is C's, so the count stands beside it.
+// writes nothing. No memory is taken, so the slice is lent and the answer is how many of its places are in use.
 pub fn plan(numbers: Numbers, extracts: &mut [u16]) -> Result<u16, Refusal>
     ensures { Plans (given numbers.entry) extracts.old (in_numbers result) extracts.new }
 {

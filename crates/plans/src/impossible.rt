@@ -1,4 +1,5 @@
 // Jobs without a correct split, beside jobs that have one because they ask a little less.
+// The cases are calls, one after the other: in a table of tuples each would take as many lines, and the calls say what they do.
 use crate::planning::plan;
 use std::io;
 use worked::numbers::numbers;

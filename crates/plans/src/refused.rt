@@ -1,4 +1,5 @@
 // Unfit numbers and slices that are too short: 7 goes before 8, and 8 before 9. The limits beside them are not refused.
+// The cases are calls, one after the other: in a table of tuples each would take as many lines, and the calls say what they do.
 ghost use Rattle.std.specs.Prelude.{◌≤◌};
 
 use crate::planning::{plan, plan_within};

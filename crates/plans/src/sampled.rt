@@ -1,5 +1,4 @@
 // Random fit jobs of up to 10 columns, 8 forbidden sets and eight needs: a line after every 50 jobs, in which all answers so far are added up.
-ghost use Rattle.std.specs.Prelude.{◌<◌, ◌≤◌, length};
 
 use crate::planning::Extracts;
 use job::refusals::Refusal;

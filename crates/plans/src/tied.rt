@@ -1,4 +1,5 @@
 // Jobs whose split the order of 01 decides. A comment names what another order would give.
+// The cases are calls, one after the other: in a table of tuples each would take as many lines, and the calls say what they do.
 use crate::planning::plan;
 use std::io;
 use worked::numbers::numbers;

@@ -1,4 +1,5 @@
-// The lines of a page, each put behind those before it.
+// The lines of a page, each put behind those before it. The page and the table of names stay two parameters: the page is lent to be written and the names to
+// be read, and a struct of both would be made by one function, and its page promised to be the same in each clause.
 ghost use Rattle.std.specs.Prelude.{[], ◌∷◌, ◌++◌, get_or};
 ghost use Rattle.rules.specs.Sets.{members};
 ghost use Rattle.rules.specs.Signs.{line_end};

@@ -8,7 +8,7 @@ use crate::task::Task;
 use columns::{ALL_SETS, ColumnSet};
 
 // What each set meets, what is possible within each, and how many sets meet each need. The tables are right within the columns that are free, so
-// a search asks nothing more of who calls it.
+// no method asks for that.
 #[derive(Clone, Copy)]
 pub struct Search<'a> {
     pub lean: &'a [u8; ALL_SETS],

@@ -17,7 +17,7 @@ ghost use Rattle.rules.specs.Conditions.{condition, gain};
 ghost use Rattle.job.specs.Records.{numbers_in, Sound};
 ghost use Rattle.tables.specs.Tables.{blocks, Tells, Valued, Stays, mirror};
 
-// How many blocks of 64 sets the sets of 16 columns are: a table with a bit for each set has so many words.
+// How many blocks of 64 sets the sets of 16 columns are: a table with a bit for each set has so many words, in fixed memory.
 pub const ALL_BLOCKS: usize = 1024;
 
 // That a job is sound is asked by a clause and not by its type: the job of no columns, which `job::no_job` gives, is not sound.
@@ -32,7 +32,7 @@ pub fn conditions(job: &Job, chosen: usize, table: &mut [u64; ALL_BLOCKS])
     let places = &mut table[..count];
     if chosen < job.needs {
         let rows = job::rows::rows_of(&job.marks[..job.marked]);
-        let row = rows[chosen];
+        let row = rows[chosen]; // copied where it is evaluated, as 01 names it
         words::meet(&row, places);
     } else {
         words::hold(places);

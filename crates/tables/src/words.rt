@@ -1,4 +1,5 @@
-// Tables of a bit for each set: a word for each block of 64 sets.
+// Tables of a bit for each set: a word for each block of 64 sets. That a table has no more words than there are blocks is asked by each function: a slice's
+// type doesn't say how long it is, and a type around it would be made and opened at one place.
 ghost use Rattle.std.specs.Prelude.{◌≡◌, true, not, ℕ, ◌%◌, ◌<◌, ◌≤◌, min, length};
 ghost use Rattle.rules.specs.Options.{Some};
 ghost use Rattle.rules.specs.Lists.{any_of};

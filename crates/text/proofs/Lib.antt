@@ -5,6 +5,7 @@ pub mod NamesBack
 pub mod Tabling
 pub mod Gathering
 pub mod SetLines
+pub mod FromPlaces
 pub mod MarksLaid
 pub mod Answers
 pub mod Promises

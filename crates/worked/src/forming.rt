@@ -1,4 +1,5 @@
-// Random forbidden sets and needs of fit jobs.
+// Random forbidden sets and needs of fit jobs. That there are 1 to 16 columns is asked of each function: their number is drawn at two places, and a type for it
+// would say no more.
 ghost use Rattle.std.specs.Prelude.{◌<◌, ◌≤◌};
 
 use crate::random::Random;
