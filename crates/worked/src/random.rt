@@ -30,7 +30,7 @@ impl Random {
         number ^= number << 13;
         number ^= number >> 7;
         number ^= number << 17;
-        self.latest = number;
+        *self = Self { latest: number };
         number
     }
 }
