@@ -2,6 +2,7 @@
 pub mod Blocks
 pub mod WordTables
 pub mod ByteTables
+pub mod Changed
 pub mod Forbidden
 pub mod JobConditions
 pub mod JobTables

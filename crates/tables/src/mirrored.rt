@@ -1,5 +1,5 @@
 // A job with its columns in the other order.
-ghost use Rattle.std.specs.Prelude.{◌≡◌, ◌≤◌};
+ghost use Rattle.std.specs.Prelude.{◌≡◌, map, ◌≤◌};
 ghost use Rattle.tables.specs.Tables.{mirror as mirror_of};
 ghost use Rattle.tables.specs.Mirrored.{mirrored_mark, mirrored_job};
 
@@ -28,15 +28,26 @@ fn mirrored_mark(mark: u16, columns: u16) -> u16
     }
 }
 
+// Every mark with the columns in the other order. In place: `map` of an array takes each of the 512 through an Option, and the diagram of a small job then
+// takes 2.8 times as long.
+fn mirror_marks(marks: &mut [u16], columns: u16)
+    ensures { marks.new ≡ map (mirrored_mark columns) marks.old }
+{
+    for mark in marks.iter_mut() {
+        *mark = mirrored_mark(*mark, columns);
+    }
+}
+
 // The job whose forbidden sets and needs name the columns in the other order. Places without a number are changed too: nothing reads them.
 pub fn mirrored_job(job: &Job) -> Job
     requires { job.now.columns ≤ 16 }
     ensures { result ≡ mirrored_job job.now }
 {
     let columns = job.columns;
-    Job {
+    let mut mirrored = Job {
         forbidden: job.forbidden.map(|set| mirror(set, columns)),
-        marks: job.marks.map(|mark| mirrored_mark(mark, columns)),
         ..*job
-    }
+    };
+    mirror_marks(&mut mirrored.marks, columns);
+    mirrored
 }
