@@ -86,6 +86,12 @@ impl Nodes {
         }
     }
 
+    pub fn renew(&mut self) {
+        self.column.renew();
+        self.low.renew();
+        self.high.renew();
+    }
+
     pub fn add_to(&self, checksum: &mut Checksum) {
         checksum.add_all(self.column.as_slice());
         checksum.add_all(self.low.as_slice());
@@ -99,6 +105,11 @@ impl Paths {
             ones: Lent::new(rooms.ones),
             zeros: Lent::new(rooms.zeros),
         }
+    }
+
+    pub fn renew(&mut self) {
+        self.ones.renew();
+        self.zeros.renew();
     }
 
     pub fn add_to(&self, checksum: &mut Checksum) {

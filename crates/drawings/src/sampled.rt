@@ -42,14 +42,20 @@ impl Display for Sums {
 pub fn run(rt: &impl Print) -> io::Result<()> {
     let mut random = Random::new(2685821657736338717);
     let mut sums = Sums::default();
+    // the same slices for all jobs: made anew for each they would be copied, and the run would take a quarter to a third longer
+    let rooms = Rooms::for_paths(512, 512);
+    let mut nodes = Nodes::new(rooms);
+    let mut paths = Paths::new(rooms);
     for _ in 0..300 {
-        one_more(&mut random, &mut sums);
+        nodes.renew();
+        paths.renew();
+        one_more(&mut random, &mut nodes, &mut paths, &mut sums);
     }
     println!(rt; "300 random jobs: {sums}")
 }
 
 // One job: up to 4 sets of up to 3 columns, a need of up to 16 column marks; one in eight asks for "no need".
-fn one_more(random: &mut Random, sums: &mut Sums) {
+fn one_more(random: &mut Random, nodes: &mut Nodes, paths: &mut Paths, sums: &mut Sums) {
     let drawn = random.next();
     let columns = drawn % 10 + 1;
     let sets = (drawn / 16 % 5) as usize;
@@ -59,9 +65,6 @@ fn one_more(random: &mut Random, sums: &mut Sums) {
     let mut marks = [0u16; 32];
     forming::form_sets(random, &mut forbidden, columns);
     forming::form_need(random, &mut marks[..marked], columns);
-    let rooms = Rooms::for_paths(512, 512);
-    let mut nodes = Nodes::new(rooms);
-    let mut paths = Paths::new(rooms);
     let listed = diagram::one_paths(
         numbers(columns as usize, &forbidden[..sets], &marks[..marked]),
         chosen,
@@ -71,5 +74,5 @@ fn one_more(random: &mut Random, sums: &mut Sums) {
         paths.ones.as_mut_slice(),
         paths.zeros.as_mut_slice(),
     );
-    sums.add(listed, &nodes, &paths);
+    sums.add(listed, nodes, paths);
 }

@@ -1,5 +1,5 @@
 // Slices that are lent to a call: what they hold before it, and what of that is left after it.
-ghost use Rattle.std.specs.Prelude.{◌≡◌, ◌≤◌, ◌-◌, ◌==◌, length, take, count_by};
+ghost use Rattle.std.specs.Prelude.{◌≡◌, ◌≤◌, ◌-◌, ◌==◌, length, take, replicate, count_by};
 
 // As many places of an array as a case lends to a call. Before the call every place holds the same number.
 #[derive(Clone, Copy)]
@@ -32,6 +32,14 @@ impl<const MOST: usize, const BEFORE: u16> Lent<MOST, BEFORE> {
         let room = self.room;
         let places = &mut self.places;
         &mut places[..room]
+    }
+
+    // Every place that is lent holds once more what it held before the first call, so that one array serves call after call and is not copied for each.
+    pub fn renew(&mut self)
+        ensures room { self.new.room ≡ self.old.room }
+        ensures before { take self.new.room self.new.places ≡ replicate self.old.room BEFORE }
+    {
+        self.places[..self.room].fill(BEFORE);
     }
 
     // How many places hold what they held before, and how many another number.
