@@ -71,7 +71,8 @@ fn put_page(page: &mut Page, text: &[u8]) -> Result<(), Fault>
             Ok(())
         }
         Err(fault) => {
-            lines::put_refusal(page, fault);
+            let number = u16::from(fault.refusal);
+            lines::put_refusal(page, number, fault.place);
             Err(fault)
         }
     }

@@ -5,12 +5,10 @@ ghost use Rattle.rules.specs.Sets.{members};
 ghost use Rattle.rules.specs.Signs.{line_end};
 ghost use Rattle.rules.specs.Words.{decimal, keyed_line};
 ghost use Rattle.rules.specs.Pages.{refused, released, joined_names, names_at, extract_lines, page as page_of};
-ghost use Rattle.job.specs.Refusals.{number_of};
 ghost use Rattle.writing.specs.Puts.{Puts};
 ghost use Rattle.report.specs.Naming.{PutsNamed};
 
 use columns::ColumnSet;
-use job::refusals::Fault;
 use naming::signs::byte;
 use naming::words::MOST_NAME_BYTES;
 use writing::Page;
@@ -82,12 +80,11 @@ pub fn put_split(page: &mut Page, names: &[u8], extracts: &[u16])
     put_extracts(page, names, extracts);
 }
 
-// The page of a refusal.
-pub fn put_refusal(page: &mut Page, fault: Fault)
-    ensures { Puts (page_of (refused (number_of fault.refusal) fault.place)) page.old page.new }
+// The page of a refusal, by its number: of any number, also of one that no refusal has.
+pub fn put_refusal(page: &mut Page, number: u16, place: usize)
+    ensures { Puts (page_of (refused number place)) page.old page.new }
 {
-    let number = u16::from(fault.refusal);
     page.put(b"result=refused\n");
     put_count(page, b"number=", number as usize);
-    put_count(page, b"place=", fault.place);
+    put_count(page, b"place=", place);
 }

@@ -6,4 +6,4 @@ pub returns-in-Ok : goal.returns-in-Ok
 returns-in-Ok c = ends_released c.in-Ok.ensures c.put_split.ensures
 
 pub returns-in-Err : goal.returns-in-Err
-returns-in-Err c = ends_refused c.in-Err.ensures c.put_refusal.ensures
+returns-in-Err c = ends_refused c.in-Err.ensures (rw c.from-number.ensures at c.put_refusal.ensures)

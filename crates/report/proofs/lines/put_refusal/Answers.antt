@@ -6,4 +6,4 @@ use Rattle.report.proofs.lines.put_refusal.Goals as goal
 
 pub returns : goal.returns
 unfolding keyed_line page
-returns c = puts_both c.put.ensures (puts_both (rw c.from-number.ensures at c.put_count.ensures) c.put_count-2.ensures)
+returns c = puts_both c.put.ensures (puts_both c.put_count.ensures c.put_count-2.ensures)
