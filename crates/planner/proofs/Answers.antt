@@ -106,7 +106,7 @@ module _ (q : Numbers) (old : List ℕ) where
 
       module _ (count : ℕ) (new : List ℕ)
           (searched : Searched (in_table table) price_of (full held.columns) (full held.needs) held.needs count old new) where
-        plans_none : held.needs < count → Plans q old (record { refusal = 9; count = 0 }) new
+        pub plans_none : held.needs < count → Plans q old (record { refusal = 9; count = 0 }) new
         plans_none h =
             let s = in_words count new searched in
             let more : length job.needs < count = omega (arith, meant.many) in
@@ -114,7 +114,7 @@ module _ (q : Numbers) (old : List ℕ) where
             subst (λ (slice : List ℕ). Plans q old (record { refusal = 9; count = 0 }) slice) (sym (s.stays more))
             (plans_refused q old no_correct_split (planning_none q old job meant.known room none_there))
 
-        plans_all : count ≤ held.needs → Plans q old (record { refusal = 0; count = count }) new
+        pub plans_all : count ≤ held.needs → Plans q old (record { refusal = 0; count = count }) new
         plans_all h =
             let found = (in_words count new searched).found (omega (arith, meant.many)) in
             let best =

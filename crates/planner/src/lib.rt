@@ -26,5 +26,8 @@ pub fn plan(numbers: Numbers, extracts: &mut [u16]) -> Result<u16, Refusal>
     let needs = job.needs as u16;
     let mut gains = [0u8; ALL_SETS];
     tables::gains(&job, &mut gains);
-    searching::best(&gains, job.columns, needs, extracts).ok_or(Refusal::NoCorrectSplit)
+    let Some(count) = searching::best(&gains, job.columns, needs, extracts) else {
+        return Err(Refusal::NoCorrectSplit);
+    };
+    Ok(count)
 }

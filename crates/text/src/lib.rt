@@ -73,6 +73,9 @@ pub fn read(text: &[u8]) -> Result<JobRead, Fault>
         });
     }
     of_form(text)?;
-    first_fault(text)?;
-    Ok(taken(text))
+    // a match, so that what goes up is written here and an edit of its place changes a value
+    match first_fault(text) {
+        Ok(()) => Ok(taken(text)),
+        Err(fault) => Err(fault),
+    }
 }

@@ -1,5 +1,6 @@
 -- `planner::plan` meets its contract. Assumes nothing.
 use native.Mathlib.Omega.{arith}
+use Rattle.rules.specs.Options.{None, Some}
 use Rattle.rules.specs.Numbers.{Numbers}
 use Rattle.job.specs.Given.{given}
 use Rattle.planner.proofs.Answers.{plans_not_fit, plans_no_room, sound, few, few_needs_lem, empty_gains_nothing, plans_best}
@@ -39,8 +40,12 @@ best-requires c =
       empty_gains_nothing q old job c.in-Some.ensures c.if-extracts-lt-MOST_EXTRACTS.false c.gains.new.table c.gains.ensures.told,
     )
 
+pub returns-in_default-best : goal.returns-in_default-best
+returns-in_default-best c =
+    plans_best (given c.args.numbers) c.args.extracts.now c.in-Some.job c.in-Some.ensures c.if-extracts-lt-MOST_EXTRACTS.false c.gains.new.table
+    c.gains.ensures.told None c.best.new.extracts c.in_default-best.ensures.near c.in_default-best.ensures.searched
+
 pub returns : goal.returns
 returns c =
-    rw c.ok_or.ensures.value
-    (plans_best (given c.args.numbers) c.args.extracts.now c.in-Some.job c.in-Some.ensures c.if-extracts-lt-MOST_EXTRACTS.false c.gains.new.table
-    c.gains.ensures.told c.best.result c.best.new.extracts c.best.ensures.near c.best.ensures.searched)
+    plans_best (given c.args.numbers) c.args.extracts.now c.in-Some.job c.in-Some.ensures c.if-extracts-lt-MOST_EXTRACTS.false c.gains.new.table
+    c.gains.ensures.told (Some c.in-Some-best.count) c.best.new.extracts c.in-Some-best.ensures.near c.in-Some-best.ensures.searched

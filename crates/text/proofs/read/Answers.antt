@@ -14,17 +14,13 @@ returns-in_err-of_form c =
     let stops = c.in_err-of_form.ensures in
     rw (fault.1, fault.2, stops.0) (stops_takes (omega (arith, c.if-text-gt-MOST_BYTES.false)) stops.1)
 
-pub returns-in_err-first_fault : goal.returns-in_err-first_fault
-returns-in_err-first_fault c =
-    let residual = c.from_residual-in_err-first_fault in
-    let fault = err_from_is_err_and residual.result residual.ensures.1 in
-    let whole = c.in_ok-of_form.ensures in
-    rw (fault.1, fault.2)
-    (fault_takes whole.0 c.in_err-first_fault.field-0.0 (omega (arith, c.if-text-gt-MOST_BYTES.false)) whole.1
-    (c.in_err-first_fault.ensures whole.0 whole.1))
-
-pub returns : goal.returns
-returns c =
+pub returns-in-Ok : goal.returns-in-Ok
+returns-in-Ok c =
     let whole = c.in_ok-of_form.ensures in
     right_takes whole.0 c.taken.result (omega (arith, c.if-text-gt-MOST_BYTES.false)) whole.1
-    (c.taken.ensures whole.0 whole.1 (sym (c.in_ok-first_fault.ensures whole.0 whole.1)))
+    (c.taken.ensures whole.0 whole.1 (sym (c.in-Ok.ensures whole.0 whole.1)))
+
+pub returns-in-Err : goal.returns-in-Err
+returns-in-Err c =
+    let whole = c.in_ok-of_form.ensures in
+    fault_takes whole.0 c.in-Err.fault (omega (arith, c.if-text-gt-MOST_BYTES.false)) whole.1 (c.in-Err.ensures whole.0 whole.1)
