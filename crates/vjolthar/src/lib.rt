@@ -12,6 +12,7 @@ use verdicts::Told;
 mod verdicts; // verdicts.rt: the judge's answer as numbers
 
 ghost use Rattle.std.specs.Prelude.{◌≡◌, []};
+ghost use Rattle.rules.specs.Lists.{written};
 ghost use Rattle.job.specs.Records.{no_job};
 ghost use Rattle.text.specs.Tables.{name_table};
 ghost use Rattle.growing.specs.Slices.{node_slices};
@@ -54,20 +55,32 @@ pub fn vjolthar_read(
     if too_short(forbidden, marks, names) {
         return u16::from(Refusal::SliceTooShort);
     }
-    let (refusal, at, read) = match text::read(text) {
-        Ok(read) => (0, 0, read),
-        Err(fault) => (u16::from(fault.refusal), fault.place, nothing_read()),
-    };
-    let JobRead { job, names: table } = read;
-    copies::write(forbidden, &job.forbidden);
-    copies::write(marks, &job.marks);
-    writing::put(names, 0, &table);
-    *place = at;
-    *columns = job.columns as usize;
-    *sets = job.sets;
-    *needs = job.needs;
-    *marked = job.marked;
-    refusal
+    match text::read(text) {
+        Ok(read) => {
+            hand_out(&read, forbidden, marks, names);
+            *columns = read.job.columns as usize;
+            *sets = read.job.sets;
+            *needs = read.job.needs;
+            *marked = read.job.marked;
+            0 // nothing is refused
+        }
+        Err(first) => {
+            hand_out(&nothing_read(), forbidden, marks, names);
+            *place = first.place;
+            u16::from(first.refusal)
+        }
+    }
+}
+
+// Writes a job and its names over the first places of the slices. What was read is lent, since it is over a thousand bytes.
+fn hand_out(read: &JobRead, forbidden: &mut [u16], marks: &mut [u16], names: &mut [u8])
+    ensures forbidden { forbidden.new ≡ written read.now.job.forbidden forbidden.old }
+    ensures marks { marks.new ≡ written read.now.job.marks marks.old }
+    ensures names { names.new ≡ written read.now.names names.old }
+{
+    copies::write(forbidden, &read.job.forbidden);
+    copies::write(marks, &read.job.marks);
+    writing::put(names, 0, &read.names);
 }
 
 // Whether one of the slices has fewer places than the job as a value.

@@ -14,13 +14,13 @@ returns-in_err-of_form c =
     let stops = c.in_err-of_form.ensures in
     rw (fault.1, fault.2, stops.0) (stops_takes (omega (arith, c.if-text-gt-MOST_BYTES.false)) stops.1)
 
-pub returns-in-Ok : goal.returns-in-Ok
-returns-in-Ok c =
-    let whole = c.in_ok-of_form.ensures in
-    right_takes whole.0 c.taken.result (omega (arith, c.if-text-gt-MOST_BYTES.false)) whole.1
-    (c.taken.ensures whole.0 whole.1 (sym (c.in-Ok.ensures whole.0 whole.1)))
-
 pub returns-in-Err : goal.returns-in-Err
 returns-in-Err c =
     let whole = c.in_ok-of_form.ensures in
     fault_takes whole.0 c.in-Err.fault (omega (arith, c.if-text-gt-MOST_BYTES.false)) whole.1 (c.in-Err.ensures whole.0 whole.1)
+
+pub returns : goal.returns
+returns c =
+    let whole = c.in_ok-of_form.ensures in
+    right_takes whole.0 c.taken.result (omega (arith, c.if-text-gt-MOST_BYTES.false)) whole.1
+    (c.taken.ensures whole.0 whole.1 (sym (c.in_default.ensures whole.0 whole.1)))
